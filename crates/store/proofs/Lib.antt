@@ -1,0 +1,4 @@
+pub mod Calendars
+pub mod Bits
+pub mod Pairs
+pub mod Verdicts

@@ -1,0 +1,5 @@
+pub mod Windows
+pub mod Pairs
+pub mod Verdicts
+pub mod Calendars
+pub mod Masks
