@@ -1,4 +1,1 @@
-pub mod Calendars
-pub mod Bits
-pub mod Pairs
 pub mod Verdicts

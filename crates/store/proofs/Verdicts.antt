@@ -13,7 +13,7 @@ use Rattle.store.specs.declared.fault.StoreFault.{StoreFault}
 use Rattle.store.specs.declared.step.Step.{Step}
 use Rattle.store.specs.declared.step.Step.the-variants.{Stays, Moves}
 use Rattle.store.specs.declared.window.Window.{Window}
-use Rattle.store.specs.Windows.{window, windowAt, lowAt, highAt}
+use Rattle.store.specs.Windows.{window, windowAt, lowAt, highAt, Steps, no-such-lot, stays, would-empty, moves}
 use Rattle.store.specs.Verdicts.{Raising, Lowering}
 
 -- the low end moves up to a day
@@ -51,3 +51,10 @@ fallen-differs ws is p day l m e s =
     let same : windowAt ws p ≡ window l day = subst (λ xs. windowAt xs p ≡ window l day) (sym e ∙ s) at in
     let high : windowAt ws p .high ≡ day = ap (λ w. w .high) same in
     omega (arith, m .below)
+
+-- a call that neither leaves the end nor empties the window moves the end
+pub steps-moves : {S E : Type 0} {w : Window} (ws is : List Window) (p : ℕ) (r : Result (Unit {0}) StoreFault) → p < length ws → (S → ⊥) → (E → ⊥) → Steps ws p S E w r is → (r ≡ Ok tt) × (is ≡ set ws p w)
+steps-moves ws is p r b s e (no-such-lot n _ _) = absurd (omega arith)
+steps-moves ws is p r b s e (stays _ h _ _) = absurd (s h)
+steps-moves ws is p r b s e (would-empty _ _ h _ _) = absurd (e h)
+steps-moves ws is p r b s e (moves _ _ _ a l) = (a, l)

@@ -1,5 +1,2 @@
-pub mod Windows
-pub mod Pairs
 pub mod Verdicts
-pub mod Calendars
-pub mod Masks
+pub mod Windows

@@ -1,9 +1,5 @@
-// Window stores: what holds the windows of a house's lots, and the calendars that can be laid over one.
-pub mod dispatch;
+// Window stores: the contract that every store of windows meets, and what all of them share.
 pub mod fault;
-pub mod masks;
-pub mod period;
-mod step;
+pub mod step;
 pub mod store;
 pub mod window;
-pub mod words;

@@ -1,0 +1,29 @@
+use mathlib.Core.Path.{ap, _∙_}
+use mathlib.Core.List.{map}
+use native.Mathlib.Nat.{mul-le-mul-left}
+use native.Mathlib.Omega.{arith}
+use borrow.Author.Needs.{needs}
+use Rattle.std.specs.declared.result.Result.the-variants.{Ok}
+use Rattle.calendar.specs.Calendars.{inPeriods}
+use Rattle.store.specs.Windows.{moves}
+use Rattle.calendar.proofs.Calendars.{word-read, period-raise}
+use Rattle.store.proofs.Verdicts.{rises, risen-differs}
+use Rattle.calendar.proofs.period.layer.PeriodWindows.raise.Needs as need
+
+pub mul-self : need.mul-self
+mul-self g c =
+    let m = rises (map (inPeriods (c .args .self .now .length .days)) (g .S·WindowStore .windows (c .args .self .now .below))) (c .args .place) (c .args .period) _ _ _ (c .low .ensures .value) (c .high .ensures .value) (c .raising .ensures) (c .in-Continue-raising .was tt ∙ ap Ok (c .in-Moves .is)) in
+    let word = word-read (map (inPeriods (c .args .self .now .length .days)) (g .S·WindowStore .windows (c .args .self .now .below))) (c .args .place) (c .args .self .now .length .days) _ (c .high .ensures .value) (m .there) (c .high .ensures .word) in
+    let least = mul-le-mul-left (c .args .self .now .length .days) (m .within) in
+    search needs
+
+pub returns-in-Moves : need.returns-in-Moves
+returns-in-Moves g c =
+    let m = rises (map (inPeriods (c .args .self .now .length .days)) (g .S·WindowStore .windows (c .args .self .now .below))) (c .args .place) (c .args .period) _ _ _ (c .low .ensures .value) (c .high .ensures .value) (c .raising .ensures) (c .in-Continue-raising .was tt ∙ ap Ok (c .in-Moves .is)) in
+    let below = period-raise (c .args .self .now .length .days) (c .args .self .now .length .some) (g .S·WindowStore .windows (c .args .self .now .below)) _ (c .args .place) (c .args .period) _ m (c .raise .ensures .raises) in
+    record {
+      raises = moves (m .there) (λ h. omega (arith, m .above)) (λ h. omega (arith, m .within)) (below .0) (below .1);
+      still = λ same. absurd (risen-differs _ _ _ _ _ m (below .1) same);
+      moved = λ differs. c .raise .ensures .moved (λ same. differs (ap (map (inPeriods (c .args .self .now .length .days))) same));
+      framed = ap (λ rest. ((c .args .self .now .length .days), rest)) (c .raise .ensures .framed);
+    }
