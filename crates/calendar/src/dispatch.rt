@@ -1,9 +1,10 @@
 // The dispatch layer: any store, read in days before the day of dispatch.
 ghost use mathlib.Core.Path.{_≡_};
-ghost use mathlib.Core.List.{map};
+ghost use mathlib.Core.List.{List, map};
 ghost use Prim.Native.Nat.{ℕ, _-_};
-ghost use Rattle.std.specs.Options.{mapped};
 ghost use Rattle.calendar.specs.Calendars.{beforeDispatch};
+ghost use Rattle.store.specs.Windows.{lowAt, highAt};
+ghost use Rattle.store.specs.declared.window.Window.{Window};
 use store::fault::StoreFault;
 use store::step::Step;
 use store::step::lowering;
@@ -77,8 +78,10 @@ pub impl<S: WindowStore> WindowStore for Dispatch<S> as DispatchWindows {
 }
 
 // A day, if there is one, as days before dispatch. Saturating on purpose: no day lies after dispatch, so a later one shows as 0.
+// Whatever list the day is the last day of a lot in, the answer is the first day that the layer shows there; and the other way round.
 fn shown(last: u32, day: Option<u32>) -> Option<u32>
-    ensures { λ r. ⌜ r ≡ mapped (λ d. last - d) day ⌝ }
+    ensures lows { λ r. ⌜ ((ws : List Window) (p : ℕ) → day ≡ highAt ws p → r ≡ lowAt (map (beforeDispatch last) ws) p) ⌝ }
+    ensures highs { λ r. ⌜ ((ws : List Window) (p : ℕ) → day ≡ lowAt ws p → r ≡ highAt (map (beforeDispatch last) ws) p) ⌝ }
 {
     Some(last.saturating_sub(day?))
 }

@@ -1,10 +1,11 @@
 // The period layer: any store, read in periods of a fixed number of days, as weeks.
 ghost use mathlib.Core.Path.{_≡_};
-ghost use mathlib.Core.List.{map};
-ghost use Prim.Native.Nat.{ℕ, _+_, _*_, _-_, _/_, _^_, _<_};
-ghost use Rattle.std.specs.Options.{Cases, mapped};
+ghost use mathlib.Core.List.{List, map};
+ghost use Prim.Native.Nat.{ℕ, _+_, _*_, _-_, _^_, _<_};
+ghost use Rattle.std.specs.Options.{Cases};
 ghost use Rattle.calendar.specs.Calendars.{inPeriods};
-ghost use Rattle.store.specs.Windows.{highAt};
+ghost use Rattle.store.specs.Windows.{lowAt, highAt};
+ghost use Rattle.store.specs.declared.window.Window.{Window};
 use super::PeriodLength;
 use store::fault::StoreFault;
 use store::step::Step;
@@ -84,9 +85,10 @@ pub impl<S: WindowStore> WindowStore for Period<S> as PeriodWindows {
     }
 }
 
-// A day, if there is one, as the number of its period.
+// A day, if there is one, as the number of its period: the end that the layer shows of whatever list the day is an end in.
 fn shown(length: PeriodLength, day: Option<u32>) -> Option<u32>
-    ensures value { λ r. ⌜ r ≡ mapped (λ d. d / length .days) day ⌝ }
+    ensures lows { λ r. ⌜ ((ws : List Window) (p : ℕ) → day ≡ lowAt ws p → r ≡ lowAt (map (inPeriods (length .days)) ws) p) ⌝ }
+    ensures highs { λ r. ⌜ ((ws : List Window) (p : ℕ) → day ≡ highAt ws p → r ≡ highAt (map (inPeriods (length .days)) ws) p) ⌝ }
     ensures word { λ r. ⌜ Cases r (Unit {0}) (λ p. length .days * p < 2 ^ 32) ⌝ }
 {
     Some(day? / length.days)
