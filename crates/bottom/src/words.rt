@@ -4,7 +4,7 @@ ghost use mathlib.Core.List.{List};
 ghost use Prim.Native.Nat.{ℕ, _+_, _*_};
 ghost use lib.ListN.{set};
 ghost use denote.Ref.{name, now};
-ghost use Rattle.bottom.specs.Pairs.{paired, unpaired};
+ghost use Rattle.store.specs.Pairs.{paired, unpaired};
 use store::fault::StoreFault;
 use store::step::Step;
 use store::step::lowering;

@@ -1,4 +1,4 @@
-use Rattle.bottom.proofs.Pairs.{paired-length}
+use Rattle.store.proofs.Pairs.{paired-length}
 use Rattle.bottom.proofs.words.WordStoreWindows.lots.Needs as need
 
 pub returns : need.returns

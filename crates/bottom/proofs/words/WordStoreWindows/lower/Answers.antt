@@ -4,9 +4,9 @@ use native.Mathlib.Omega.{arith}
 use borrow.Author.Needs.{needs}
 use lib.ListN.{length}
 use Rattle.std.specs.declared.result.Result.the-variants.{Ok}
-use Rattle.bottom.specs.Pairs.{paired}
+use Rattle.store.specs.Pairs.{paired}
 use Rattle.store.specs.Windows.{moves}
-use Rattle.bottom.proofs.Pairs.{paired-length, paired-set-high, unpaired-set-high}
+use Rattle.store.proofs.Pairs.{paired-length, paired-set-high, unpaired-set-high}
 use Rattle.store.proofs.Verdicts.{Falls, falls, fallen-differs}
 use Rattle.bottom.proofs.words.WordStoreWindows.lower.Needs as need
 

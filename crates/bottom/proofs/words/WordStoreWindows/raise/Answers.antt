@@ -4,9 +4,9 @@ use native.Mathlib.Omega.{arith}
 use borrow.Author.Needs.{needs}
 use lib.ListN.{length}
 use Rattle.std.specs.declared.result.Result.the-variants.{Ok}
-use Rattle.bottom.specs.Pairs.{paired}
+use Rattle.store.specs.Pairs.{paired}
 use Rattle.store.specs.Windows.{moves}
-use Rattle.bottom.proofs.Pairs.{paired-length, paired-set-low, unpaired-set-low}
+use Rattle.store.proofs.Pairs.{paired-length, paired-set-low, unpaired-set-low}
 use Rattle.store.proofs.Verdicts.{Rises, rises, risen-differs}
 use Rattle.bottom.proofs.words.WordStoreWindows.raise.Needs as need
 

@@ -4,8 +4,8 @@ use mathlib.Core.List.{List, [], _∷_}
 use Prim.Native.Nat.{ℕ, zero, suc, _+_, _*_, _/_, _<_}
 use native.Mathlib.Omega.{arith}
 use lib.ListN.{length, getD, set}
 use Rattle.store.specs.Windows.{window, windowAt}
-use Rattle.bottom.specs.Pairs.{paired, unpaired}
+use Rattle.store.specs.Pairs.{paired, unpaired}
 
 twice-suc : (p : ℕ) → 2 * suc p ≡ suc (suc (2 * p))
 twice-suc p = omega arith
@@ -58,3 +58,12 @@ unpaired-set-high (l ∷ h ∷ rest) zero v b = refl
 unpaired-set-high (l ∷ h ∷ rest) (suc p) v b =
     let e : 2 * suc p + 1 ≡ suc (suc (2 * p + 1)) = omega arith in
     rw e (unpaired-set-high rest p v (omega arith))
+
+-- a whole window written over another
+pub paired-set-both : (ws : List ℕ) (p l h : ℕ) → 2 * p + 1 < length ws → paired (set (set ws (2 * p) l) (2 * p + 1) h) ≡ set (paired ws) p (window l h)
+paired-set-both [] p l h b = refl
+paired-set-both (x ∷ []) p l h b = absurd (omega arith)
+paired-set-both (x ∷ y ∷ rest) zero l h b = refl
+paired-set-both (x ∷ y ∷ rest) (suc p) l h b =
+    let e : 2 * suc p + 1 ≡ suc (suc (2 * p + 1)) = omega arith in
+    rw (e, twice-suc p) (ap (λ ws. window x y ∷ ws) (paired-set-both rest p l h (omega arith)))
