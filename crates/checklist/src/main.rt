@@ -1,4 +1,5 @@
 // What a field engineer tries in a house before it may use the planner, one step after the other, in plain words.
+mod counts;
 mod windows;
 
 use std::io;
@@ -11,5 +12,9 @@ fn main(rt: LibcRuntime) -> io::Result<()> {
     windows::in_weeks(&rt, &mut words)?;
     windows::weeks_before_dispatch(&rt, &mut words)?;
     let mut masks = [104, 0];
-    windows::masked(&rt, &mut masks)
+    windows::masked(&rt, &mut masks)?;
+    // six lots, three of them on two days
+    let mut crowded = [1, 2, 1, 2, 1, 2, 2, 4, 4, 4, 9, 15];
+    counts::in_days(&rt, &mut crowded)?;
+    counts::in_weeks(&rt, &mut crowded)
 }

@@ -12,7 +12,7 @@ use Rattle.store.specs.declared.window.Window.{Window}
 use Rattle.nvalue.specs.Choices.{part}
 use Rattle.store.specs.Pairs.{paired}
 use Rattle.count.specs.Asked.{Cleared, FewestAnswer, MostAnswer}
-use Rattle.count.specs.Shown.{Greatest, Least}
+use Rattle.extremes.specs.Shown.{Greatest, Least}
 
 -- days written over the first n words, then more over the next m
 pub written : (was days more : List ℕ) (n m : ℕ) → length days ≡ n → putMid n (n + m - n) (days ++ postOf 0 (n - 0) was) more ≡ days ++ (more ++ drop (n + m) was)

@@ -12,7 +12,7 @@ use Rattle.store.specs.Windows.{windowAt}
 use Rattle.nvalue.specs.Choices.{Choice, Crowded, Disjoint, ShareNoDay, load, surplus}
 use Rattle.nvalue.specs.Nvalue.{nvalue}
 use Rattle.nvalue.proofs.Bounds.{disjoint-bound}
-use Rattle.count.specs.Shown.{Greatest}
+use Rattle.extremes.specs.Shown.{Greatest}
 
 -- a lot whose window lies inside a run
 pub record Inside (run : Window) (ws : List Window) : Type 0 where

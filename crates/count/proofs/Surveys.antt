@@ -12,7 +12,7 @@ use Rattle.store.specs.declared.window.Window.{Window}
 use Rattle.store.specs.Windows.{window, windowAt}
 use Rattle.nvalue.specs.Choices.{part}
 use Rattle.count.specs.Asked.{FirstFaulty}
-use Rattle.count.specs.Shown.{Sound}
+use Rattle.extremes.specs.Shown.{Sound}
 
 -- one more window copied
 pub copy-more : (page ws : List Window) (i : ℕ) (w : Window) → i < length page → i < length ws → take i page ≡ take i ws → w ≡ windowAt ws i → take (i + 1) (set page i w) ≡ take (i + 1) ws

@@ -12,13 +12,18 @@ use Rattle.store.specs.Windows.{windowAt}
 use Rattle.nvalue.specs.Choices.{Disjoint, part}
 use Rattle.count.specs.declared.fault.CountFault.{CountFault}
 use Rattle.count.specs.declared.fault.CountFault.the-variants.{ShortWork, TooManyLots, FaultyWindow, NoSuchStretch, ShortAnswer}
-use Rattle.count.specs.Shown.{Sound, Least, Greatest}
+use Rattle.extremes.specs.Shown.{Sound, Least, Greatest}
 
 -- the first lot in order whose window is empty or has a day above 9,999
 pub record FirstFaulty (ws : List Window) (p : ℕ) : Type 0 where
   pub there : p < length ws
   pub faulty : Sound (windowAt ws p) → ⊥
   pub first : (k : ℕ) → k < p → Sound (windowAt ws k)
+
+-- windows that no question is answered for: more than 256, or a faulty one
+pub data Unfit (ws : List Window) (e : CountFault) : Type 0 where
+  too-many : 256 < length ws → e ≡ TooManyLots → Unfit ws e
+  faulty-one : (p : ℕ) → length ws ≤ 256 → FirstFaulty ws p → e ≡ FaultyWindow p → Unfit ws e
 
 -- nothing stands against the question
 pub record Accepts (work : ℕ) (ws : List Window) (first len room : ℕ) : Type 0 where

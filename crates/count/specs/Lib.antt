@@ -1,5 +1,2 @@
 pub mod Asked
 pub mod Faults
-pub mod Orders
-pub mod Shown
-pub mod Turns

@@ -7,13 +7,13 @@ ghost use Rattle.std.specs.Results.{Cases};
 ghost use Rattle.std.specs.shelf.Lists.{All};
 ghost use Rattle.nvalue.specs.Choices.{part};
 ghost use Rattle.count.specs.Asked.{Accepts, Refuses, Cleared, FewestAnswer};
-ghost use Rattle.count.specs.Shown.{Sound};
+ghost use Rattle.extremes.specs.Shown.{Sound};
 use crate::fault::CountFault;
 use crate::page::Page;
 use crate::page::WORDS;
-use crate::points::fewest_of;
 use crate::survey::Stretch;
 use crate::survey::prepare;
+use extremes::points::fewest_of;
 use store::store::WindowStore;
 use store::window::Window;
 

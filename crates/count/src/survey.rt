@@ -10,7 +10,7 @@ ghost use Rattle.store.specs.Pairs.{paired};
 ghost use Rattle.store.specs.Windows.{windowAt};
 ghost use Rattle.nvalue.specs.Choices.{part};
 ghost use Rattle.count.specs.Asked.{FirstFaulty, Accepts, Refuses};
-ghost use Rattle.count.specs.Shown.{Sound};
+ghost use Rattle.extremes.specs.Shown.{Sound};
 use crate::fault::CountFault;
 use crate::page::put_window;
 use crate::page::window_in;

@@ -3,7 +3,7 @@ use mathlib.Core.Path.{subst, sym}
 use native.Mathlib.Omega.{arith}
 use Rattle.store.specs.Pairs.{paired}
 use Rattle.store.proofs.Pairs.{paired-length}
-use Rattle.count.specs.Shown.{Sound}
+use Rattle.extremes.specs.Shown.{Sound}
 use Rattle.count.proofs.Surveys.{all-sound, first-faulty}
 use Rattle.count.proofs.survey.first_faulty.Needs as need
 

@@ -1,0 +1,3 @@
+pub mod FirstDays
+pub mod FirstUsed
+pub mod Tight
