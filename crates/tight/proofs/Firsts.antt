@@ -1,7 +1,7 @@
 -- First and last days of lots among the choices with the most different days, how they go through the mirror image, and the hull that they make.
 use mathlib.Core.Path.{_≡_, ap, sym, subst, _∙_}
 use mathlib.Core.List.{List, map}
-use Prim.Native.Nat.{ℕ, _+_, _≤_, _<_}
+use Prim.Native.Nat.{ℕ, _+_, _-_, _/_, _≤_, _<_}
 use native.Mathlib.Omega.{arith}
 use borrow.Author.Count.{below-more}
 use lib.ListN.{length, getD, set}
@@ -13,7 +13,7 @@ use Rattle.store.specs.Windows.{window, windowAt}
 use Rattle.nvalue.specs.Choices.{In, Choice}
 use Rattle.nvalue.specs.Nvalue.{nvalue}
 use Rattle.nvalue.proofs.Choices.{choice-from-getD, choice-getD, choice-length, choice-set}
-use Rattle.tight.specs.FirstDays.{Best, FirstDay, FirstDays, LastDays, NoneBefore, Refused}
+use Rattle.tight.specs.FirstDays.{Best, Bracket, FirstDay, FirstDays, LastDays, NoneBefore, Reached}
 use Rattle.extremes.specs.Mirror.{flip, mirrored}
 use Rattle.extremes.specs.Shown.{Sound, HasMost}
 use Rattle.tight.specs.Tight.{Hull}
@@ -24,28 +24,33 @@ module _ (ws : List Window) (lot : ℕ) (there : lot < length ws) where
   pub none-before-low : NoneBefore ws lot (windowAt ws lot .low)
   none-before-low ds c most = choice-getD ws ds c lot there .0
 
-  -- a best choice that loses nothing where the lot moves to a day shows that day
-  pub first-moved : (days : List ℕ) (day : ℕ) → Best ws days → In (windowAt ws lot) day → nvalue days ≤ nvalue (set days lot day) → NoneBefore ws lot day → FirstDay ws lot day
-  first-moved days day best inside more before =
+  -- no best choice has a day before `first`, and one has `last`: half of the days between are tried next
+  pub halved : (first last : ℕ) → windowAt ws lot .low ≤ first → NoneBefore ws lot first → Reached ws lot last → Bracket ws lot first last ((last - first) / 2 + 1)
+  halved first last low before reached =
+      let (ds, c, most, at) = reached in
+      record {
+        low = low;
+        upto = omega (arith, before ds c most);
+        high = omega (arith, choice-getD ws ds c lot there .1);
+        some = λ l. omega arith;
+        fits = λ l. omega arith;
+        before = before;
+        reached = reached;
+      }
+
+  -- a best choice that loses nothing where the lot moves to `first` shows that it is the first day
+  pub first-moved : (days : List ℕ) (first last width : ℕ) → Best ws days → Bracket ws lot first last width → nvalue days ≤ nvalue (set days lot first) → FirstDay ws lot first
+  first-moved days first last width best b more =
       let l : lot < length days = omega (arith, choice-length ws days (best .choice)) in
       record {
         reached = (
-          set days lot day,
-          choice-set ws days lot day (best .choice) (λ _. inside),
+          set days lot first,
+          choice-set ws days lot first (best .choice) (λ _. (b .low, omega arith)),
           λ es c. omega (arith, best .most es c),
-          getD-set-same days lot day 0 l,
+          getD-set-same days lot first 0 l,
         );
-        first = before;
+        first = b .before;
       }
-
-  -- after refused days the next one is the first that is left, and a best choice shows that it lies in the window
-  pub none-before-next : (day last : ℕ) → NoneBefore ws lot day → Refused ws lot day last → NoneBefore ws lot (last + 1)
-  none-before-next day last before refused ds c most = omega (arith, refused .none ds c most (before ds c most))
-
-  pub refused-within : (days : List ℕ) (day last : ℕ) → Best ws days → NoneBefore ws lot day → Refused ws lot day last → last < windowAt ws lot .high
-  refused-within days day last best before refused =
-      let later = refused .none days (best .choice) (best .most) (before days (best .choice) (best .most)) in
-      omega (arith, choice-getD ws days (best .choice) lot there .1)
 
 -- one more lot gets its first day
 pub first-more : (ws : List Window) (days : List ℕ) (lot day : ℕ) → lot < length days → ((k : ℕ) → k < lot → FirstDay ws k (getD days k 0)) → FirstDay ws lot day

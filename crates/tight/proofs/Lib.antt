@@ -1,5 +1,5 @@
 pub mod Firsts
 pub mod Moved
-pub mod Pinned
+pub mod Narrowed
 pub mod Rungs
 pub mod Tightened

@@ -1,11 +1,10 @@
 -- The first day of a lot among the choices with the most different days, and what shows that no such choice has an earlier one.
 use mathlib.Core.Path.{_≡_}
-use mathlib.Core.Bool.{Bool, _&&_}
 use mathlib.Core.List.{List}
-use Prim.Native.Nat.{ℕ, _≤_, _<_}
-use lib.Dec.{leb}
+use Prim.Native.Nat.{ℕ, _+_, _≤_, _<_}
 use lib.ListN.{length, getD}
 use Rattle.store.specs.declared.window.Window.{Window}
+use Rattle.store.specs.Windows.{windowAt}
 use Rattle.nvalue.specs.Choices.{Choice}
 use Rattle.nvalue.specs.Nvalue.{nvalue}
 use Rattle.extremes.specs.Shown.{HasMost}
@@ -28,10 +27,24 @@ Reached ws lot day = (ds : List ℕ) × Choice ws ds × HasMost ws ds × (getD d
 abbrev pub NoneBefore : List Window → ℕ → ℕ → Type 0
 NoneBefore ws lot day = (ds : List ℕ) → Choice ws ds → HasMost ws ds → day ≤ getD ds lot 0
 
--- no best choice gives the lot a day from `day` to `last`
-pub record Refused (ws : List Window) (lot day last : ℕ) : Type 0 where
-  pub upto : day ≤ last
-  pub none : (ds : List ℕ) → Choice ws ds → HasMost ws ds → day ≤ getD ds lot 0 → last < getD ds lot 0
+-- no best choice gives the lot a day from `from` on and before `end`
+abbrev pub Refused : List Window → ℕ → ℕ → ℕ → Type 0
+Refused ws lot from end = (ds : List ℕ) → Choice ws ds → HasMost ws ds → from ≤ getD ds lot 0 → end ≤ getD ds lot 0
+
+-- a best choice gives the lot this day, which is before `end`
+pub record ReachedBefore (ws : List Window) (lot end day : ℕ) : Type 0 where
+  pub before : day < end
+  pub reached : Reached ws lot day
+
+-- the first day is `first` or a later one, and not after `last`; `width` days from `first` on are to be tried
+pub record Bracket (ws : List Window) (lot first last width : ℕ) : Type 0 where
+  pub low : windowAt ws lot .low ≤ first
+  pub upto : first ≤ last
+  pub high : last ≤ windowAt ws lot .high
+  pub some : first < last → 0 < width
+  pub fits : first < last → first + width ≤ last
+  pub before : NoneBefore ws lot first
+  pub reached : Reached ws lot last
 
 pub record FirstDay (ws : List Window) (lot day : ℕ) : Type 0 where
   pub reached : Reached ws lot day
@@ -41,14 +54,6 @@ pub record FirstDay (ws : List Window) (lot day : ℕ) : Type 0 where
 pub record FirstDays (ws : List Window) (days : List ℕ) : Type 0 where
   pub each : length days ≡ length ws
   pub first : (lot : ℕ) → lot < length ws → FirstDay ws lot (getD days lot 0)
-
--- whether a day lies in a run
-abbrev pub holds : Window → ℕ → Bool
-holds run d = leb (run .low) d && leb d (run .high)
-
--- a run has both days or neither
-abbrev pub Alike : ℕ → ℕ → Window → Type 0
-Alike d e run = holds run d ≡ holds run e
 
 -- the last day of each lot
 pub record LastDays (ws : List Window) (days : List ℕ) : Type 0 where

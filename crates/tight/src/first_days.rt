@@ -5,8 +5,8 @@ ghost use lib.ListN.{length};
 ghost use Rattle.std.specs.shelf.Lists.{All};
 ghost use Rattle.tight.specs.FirstDays.{Best, MostIs, FirstDay, FirstDays};
 ghost use Rattle.extremes.specs.Shown.{Sound};
+use crate::trial::best_before;
 use crate::trial::can_move;
-use crate::trial::last_refused;
 use extremes::matching::most_of;
 use extremes::mirror::mirror_days;
 use extremes::mirror::mirror_windows;
@@ -57,7 +57,9 @@ fn best_from_right(windows: &[Window], days: &mut [u32])
     mirror_days(days);
 }
 
-// The first day that a choice with the most different days, `most`, gives to a lot. Two such choices at hand, `left` and `right`, spare most of the trials.
+// The first day that a choice with the most different days, `most`, gives to a lot: no such choice gives it one before `first`, and one gives it `last`.
+// Each turn tries `width` days: at first all those before the day in `left`, which often is the one sought, then half of what is left. `left` takes early days, fewer than 256 past the window's first, so nine trials do.
+// Where the lot can move to `first` in `left` or `right` none is needed.
 fn first_day(windows: &[Window], lot: usize, most: usize, left: &[u32], right: &[u32]) -> u32
     requires sound { ⌜ All Sound (now windows) ⌝ }
     requires few { ⌜ length (now windows) ≤ 256 ⌝ }
@@ -67,12 +69,16 @@ fn first_day(windows: &[Window], lot: usize, most: usize, left: &[u32], right: &
     requires right { ⌜ Best (now windows) (now right) ⌝ }
     ensures { λ r. ⌜ FirstDay (now (windows .entry)) lot r ⌝ }
 {
-    let mut day = windows[lot].low;
-    while !can_move(left, lot, day) && !can_move(right, lot, day) {
-        match last_refused(windows, lot, day, most) {
-            Some(last) => day = last + 1,
-            None => return day,
+    let mut first = windows[lot].low;
+    let mut last = left[lot];
+    let mut width = last - first;
+    while first < last && !can_move(left, lot, first) && !can_move(right, lot, first) {
+        let end = first + width;
+        match best_before(windows, lot, first, end, most) {
+            Some(day) => last = day,
+            None => first = end,
         }
+        width = (last - first) / 2 + 1;
     }
-    day
+    first
 }

@@ -1,14 +1,13 @@
-// Trying a day for a lot: whether a choice with the most different days gives it that day.
+// Trying days for a lot: whether a choice with the most different days gives it one of them.
 ghost use mathlib.Core.Bool.{true};
 ghost use mathlib.Core.Path.{_≡_};
-ghost use Prim.Native.Nat.{ℕ, _≤_, _<_};
+ghost use Prim.Native.Nat.{_≤_, _<_};
 ghost use lib.ListN.{length, set};
 ghost use Rattle.std.specs.Options.{Cases as BySome};
 ghost use Rattle.std.specs.shelf.Lists.{All};
-ghost use Rattle.store.specs.Windows.{window, windowAt};
-ghost use Rattle.nvalue.specs.Choices.{In, Disjoint};
+ghost use Rattle.store.specs.Windows.{windowAt};
 ghost use Rattle.nvalue.specs.Nvalue.{nvalue};
-ghost use Rattle.tight.specs.FirstDays.{MostIs, Reached, Refused, Alike};
+ghost use Rattle.tight.specs.FirstDays.{MostIs, ReachedBefore, Refused};
 ghost use Rattle.extremes.specs.Shown.{Sound};
 use extremes::matching::most_of;
 use store::window::Window;
@@ -31,53 +30,41 @@ pub fn can_move(days: &[u32], lot: usize, day: u32) -> bool
     free || own == day
 }
 
-// Whether a choice with the most different days, `most`, gives a lot a day: none where one does, else the last of the days from that one on that are refused like it.
-pub fn last_refused(windows: &[Window], lot: usize, day: u32, most: usize) -> Option<u32>
+// A day from `from` on and before `end` that a choice with the most different days, `most`, gives to a lot, or none where no such choice does.
+pub fn best_before(windows: &[Window], lot: usize, from: u32, end: u32, most: usize) -> Option<u32>
     requires sound { ⌜ All Sound (now windows) ⌝ }
     requires few { ⌜ length (now windows) ≤ 256 ⌝ }
     requires there { ⌜ lot < length (now windows) ⌝ }
-    requires inside { ⌜ In (windowAt (now windows) lot) day ⌝ }
+    requires some { ⌜ from < end ⌝ }
+    requires low { ⌜ windowAt (now windows) lot .low ≤ from ⌝ }
+    requires high { ⌜ end ≤ windowAt (now windows) lot .high ⌝ }
     requires count { ⌜ MostIs (now windows) most ⌝ }
-    ensures { λ r. ⌜ BySome r (Reached (now (windows .entry)) lot day) (λ last. Refused (now (windows .entry)) lot day last) ⌝ }
+    ensures { λ r. ⌜ BySome r (Refused (now (windows .entry)) lot from end) (λ day. ReachedBefore (now (windows .entry)) lot end day) ⌝ }
 {
     let lots = windows.len();
     let mut copy = [Window { low: 0, high: 0 }; 256];
-    let pinned = &mut copy[0..lots];
-    pin(windows, lot, day, pinned);
+    let narrowed = &mut copy[0..lots];
+    let range = Window {
+        low: from,
+        high: end - 1,
+    };
+    narrow_lot(windows, lot, range, narrowed);
     let mut space = [0; 256];
     let days = &mut space[0..lots];
     let mut runs = [Window { low: 0, high: 0 }; 256];
-    let found = most_of(pinned, days, &mut runs);
-    if found.count == most {
+    let found = most_of(narrowed, days, &mut runs);
+    if found.count < most {
         return None;
     }
-    let shown = found.runs;
-    Some(run_end(&runs[0..shown], day))
+    Some(days[lot])
 }
 
-// Copies the windows, but leaves one lot just one day.
-fn pin(windows: &[Window], lot: usize, day: u32, pinned: &mut [Window])
+// Copies the windows, but leaves one lot just the days of a range.
+fn narrow_lot(windows: &[Window], lot: usize, range: Window, narrowed: &mut [Window])
     requires there { ⌜ lot < length (now windows) ⌝ }
-    requires each { ⌜ length (now pinned) ≡ length (now windows) ⌝ }
-    ensures { λ _. ⌜ now (pinned .exit) ≡ set (now (windows .entry)) lot (window day day) ⌝ }
+    requires each { ⌜ length (now narrowed) ≡ length (now windows) ⌝ }
+    ensures { λ _. ⌜ now (narrowed .exit) ≡ set (now (windows .entry)) lot range ⌝ }
 {
-    pinned.copy_from_slice(windows);
-    pinned[lot] = Window {
-        low: day,
-        high: day,
-    };
-}
-
-// The last day of the run that a day lies in, or the day itself where it lies in none. A run has all the days from the one to the other, or none of them.
-fn run_end(runs: &[Window], day: u32) -> u32
-    requires { ⌜ Disjoint (now runs) ⌝ }
-    ensures upto { λ r. ⌜ day ≤ r ⌝ }
-    ensures alike { λ r. ⌜ ((d : ℕ) → day ≤ d → d ≤ r → All (Alike d day) (now (runs .entry))) ⌝ }
-{
-    for run in runs {
-        if run.low <= day && day <= run.high {
-            return run.high;
-        }
-    }
-    day
+    narrowed.copy_from_slice(windows);
+    narrowed[lot] = range;
 }

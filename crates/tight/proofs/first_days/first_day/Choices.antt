@@ -1,11 +1,10 @@
--- Every best choice gives the lot the current day or a later one.
-use Prim.Native.Nat.{_+_, _-_, _≤_}
-use Rattle.store.specs.Windows.{windowAt}
-use Rattle.tight.specs.FirstDays.{NoneBefore}
+-- The first day lies between `first` and `last`.
+use Prim.Native.Nat.{_-_}
+use Rattle.tight.specs.FirstDays.{Bracket}
 use Rattle.tight.proofs.first_days.first_day.Given as given
 
-abbrev pub Inv-loop-day : given.InvT-loop-day
-Inv-loop-day l = (windowAt (l .windows) (l .lot) .low ≤ l .day) × (l .day ≤ windowAt (l .windows) (l .lot) .high) × NoneBefore (l .windows) (l .lot) (l .day)
+abbrev pub Inv-loop-first : given.InvT-loop-first
+Inv-loop-first l = Bracket (l .windows) (l .lot) (l .first) (l .last) (l .width)
 
-abbrev pub μ-loop-day : given.MeasureT-loop-day
-μ-loop-day l = windowAt (l .windows) (l .lot) .high + 1 - l .day
+abbrev pub μ-loop-first : given.MeasureT-loop-first
+μ-loop-first l = l .last - l .first
