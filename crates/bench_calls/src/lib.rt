@@ -10,7 +10,7 @@ use bottom::words::WordStore;
 use bottom::words::WordStoreWindows;
 use count::fewest::fewest;
 use count::most::most;
-use count::survey::Stretch;
+use count::stretch::Stretch;
 use store::window::Window;
 use tight::count_window::CountWindow;
 use tight::tight::tighten;

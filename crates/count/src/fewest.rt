@@ -11,7 +11,7 @@ ghost use Rattle.extremes.specs.Shown.{Sound};
 use crate::fault::CountFault;
 use crate::page::Page;
 use crate::page::WORDS;
-use crate::survey::Stretch;
+use crate::stretch::Stretch;
 use crate::survey::prepare;
 use extremes::points::fewest_of;
 use store::store::WindowStore;

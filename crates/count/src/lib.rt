@@ -3,4 +3,5 @@ pub mod fault;
 pub mod fewest;
 pub mod most;
 mod page;
-pub mod survey;
+pub mod stretch;
+mod survey;

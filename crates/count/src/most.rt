@@ -12,7 +12,7 @@ use crate::fault::CountFault;
 use crate::page::Page;
 use crate::page::WORDS;
 use crate::page::put_window;
-use crate::survey::Stretch;
+use crate::stretch::Stretch;
 use crate::survey::prepare;
 pub use extremes::matching::Most;
 pub use extremes::matching::MostDebug;

@@ -14,6 +14,7 @@ ghost use Rattle.extremes.specs.Shown.{Sound};
 use crate::fault::CountFault;
 use crate::page::put_window;
 use crate::page::window_in;
+use crate::stretch::Stretch;
 use store::store::WindowStore;
 use store::store::read_window;
 use store::window::Window;
@@ -21,13 +22,6 @@ use store::window::Window;
 const LOTS: usize = 256;
 
 const LAST_DAY: u32 = 9999;
-
-// A stretch: `length` lots in a row, from the lot `first` on.
-#[derive(Clone, Copy, PartialEq, Eq, Debug)]
-pub struct Stretch {
-    pub first: usize,
-    pub length: usize,
-}
 
 // Copies the windows of a store onto a page.
 fn copy_windows<S: WindowStore>(store: &S, page: &mut [u32])

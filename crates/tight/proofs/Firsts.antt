@@ -13,11 +13,21 @@ use Rattle.store.specs.Windows.{window, windowAt}
 use Rattle.nvalue.specs.Choices.{In, Choice}
 use Rattle.nvalue.specs.Nvalue.{nvalue}
 use Rattle.nvalue.proofs.Choices.{choice-from-getD, choice-getD, choice-length, choice-set}
-use Rattle.tight.specs.FirstDays.{Best, Bracket, FirstDay, FirstDays, LastDays, NoneBefore, Reached}
+use Rattle.tight.specs.FirstDays.{Best, FirstDay, FirstDays, LastDays, NoneBefore, Reached}
 use Rattle.extremes.specs.Mirror.{flip, mirrored}
 use Rattle.extremes.specs.Shown.{Sound, HasMost}
 use Rattle.tight.specs.Tight.{Hull}
 use Rattle.extremes.proofs.Mirrored.{choice-days, choice-mirrored, mirrored-twice, nvalue-mirrored, sound-mirrored}
+
+-- the first day is `first` or a later one, and not after `last`; `width` days from `first` on are to be tried
+pub record Bracket (ws : List Window) (lot first last width : ℕ) : Type 0 where
+  pub low : windowAt ws lot .low ≤ first
+  pub upto : first ≤ last
+  pub high : last ≤ windowAt ws lot .high
+  pub some : first < last → 0 < width
+  pub fits : first < last → first + width ≤ last
+  pub before : NoneBefore ws lot first
+  pub reached : Reached ws lot last
 
 module _ (ws : List Window) (lot : ℕ) (there : lot < length ws) where
   -- no choice has a day before the window

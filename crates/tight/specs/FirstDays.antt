@@ -1,10 +1,9 @@
 -- The first day of a lot among the choices with the most different days, and what shows that no such choice has an earlier one.
 use mathlib.Core.Path.{_≡_}
 use mathlib.Core.List.{List}
-use Prim.Native.Nat.{ℕ, _+_, _≤_, _<_}
+use Prim.Native.Nat.{ℕ, _≤_, _<_}
 use lib.ListN.{length, getD}
 use Rattle.store.specs.declared.window.Window.{Window}
-use Rattle.store.specs.Windows.{windowAt}
 use Rattle.nvalue.specs.Choices.{Choice}
 use Rattle.nvalue.specs.Nvalue.{nvalue}
 use Rattle.extremes.specs.Shown.{HasMost}
@@ -36,16 +35,7 @@ pub record ReachedBefore (ws : List Window) (lot end day : ℕ) : Type 0 where
   pub before : day < end
   pub reached : Reached ws lot day
 
--- the first day is `first` or a later one, and not after `last`; `width` days from `first` on are to be tried
-pub record Bracket (ws : List Window) (lot first last width : ℕ) : Type 0 where
-  pub low : windowAt ws lot .low ≤ first
-  pub upto : first ≤ last
-  pub high : last ≤ windowAt ws lot .high
-  pub some : first < last → 0 < width
-  pub fits : first < last → first + width ≤ last
-  pub before : NoneBefore ws lot first
-  pub reached : Reached ws lot last
-
+-- the first day that a best choice gives the lot
 pub record FirstDay (ws : List Window) (lot day : ℕ) : Type 0 where
   pub reached : Reached ws lot day
   pub first : NoneBefore ws lot day

@@ -1,6 +1,6 @@
 -- The first day lies between `first` and `last`.
 use Prim.Native.Nat.{_-_}
-use Rattle.tight.specs.FirstDays.{Bracket}
+use Rattle.tight.proofs.Firsts.{Bracket}
 use Rattle.tight.proofs.first_days.first_day.Given as given
 
 abbrev pub Inv-loop-first : given.InvT-loop-first
