@@ -58,7 +58,7 @@ impl WindowStore for MaskStore<'_> {
     }
 
     fn raise(&mut self, place: usize, day: u32) -> Result<(), StoreFault> {
-        match raising(place, self.low(place), self.high(place), day)? {
+        match raising(self.low(place), self.high(place), day)? {
             Step::Stays => {}
             Step::Moves => self.masks[place] = fill(day, mask_window(self.masks[place]).high),
         }
@@ -66,7 +66,7 @@ impl WindowStore for MaskStore<'_> {
     }
 
     fn lower(&mut self, place: usize, day: u32) -> Result<(), StoreFault> {
-        match lowering(place, self.low(place), self.high(place), day)? {
+        match lowering(self.low(place), self.high(place), day)? {
             Step::Stays => {}
             Step::Moves => self.masks[place] = fill(mask_window(self.masks[place]).low, day),
         }

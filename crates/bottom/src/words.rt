@@ -57,7 +57,7 @@ impl WindowStore for WordStore<'_> {
     }
 
     fn raise(&mut self, place: usize, day: u32) -> Result<(), StoreFault> {
-        match raising(place, self.low(place), self.high(place), day)? {
+        match raising(self.low(place), self.high(place), day)? {
             Step::Stays => {}
             Step::Moves => self.words[2 * place] = day,
         }
@@ -65,7 +65,7 @@ impl WindowStore for WordStore<'_> {
     }
 
     fn lower(&mut self, place: usize, day: u32) -> Result<(), StoreFault> {
-        match lowering(place, self.low(place), self.high(place), day)? {
+        match lowering(self.low(place), self.high(place), day)? {
             Step::Stays => {}
             Step::Moves => self.words[2 * place + 1] = day,
         }

@@ -60,14 +60,14 @@ impl<S: WindowStore> WindowStore for Dispatch<S> {
     }
 
     fn raise(&mut self, place: usize, day: u32) -> Result<(), StoreFault> {
-        match raising(place, self.low(place), self.high(place), day)? {
+        match raising(self.low(place), self.high(place), day)? {
             Step::Stays => Ok(()),
             Step::Moves => self.below.lower(place, self.last - day),
         }
     }
 
     fn lower(&mut self, place: usize, day: u32) -> Result<(), StoreFault> {
-        match lowering(place, self.low(place), self.high(place), day)? {
+        match lowering(self.low(place), self.high(place), day)? {
             Step::Stays => Ok(()),
             Step::Moves => self.below.raise(place, self.last - day),
         }

@@ -1,8 +1,7 @@
 // What a field engineer tries in a house before it may use the planner, one step after the other, in plain words.
+#![tactic(auto)]
+
 mod counts;
-mod groups;
-mod sheets;
-mod told;
 mod windows;
 
 use std::io;
@@ -19,10 +18,5 @@ fn main(rt: HostRuntime) -> io::Result<()> {
     // six lots, three of them on two days
     let mut crowded = [1, 2, 1, 2, 1, 2, 2, 4, 4, 4, 9, 15];
     counts::in_days(&rt, &mut crowded)?;
-    counts::in_weeks(&rt, &mut crowded)?;
-    sheets::one_lot(&rt)?;
-    sheets::two_lots(&rt)?;
-    groups::two_groups(&rt)?;
-    groups::before_dispatch(&rt)?;
-    groups::in_weeks(&rt)
+    counts::in_weeks(&rt, &mut crowded)
 }

@@ -1,12 +1,11 @@
 // The windows of a house, read and moved in each calendar.
-use crate::told::show_windows;
 use bottom::masks::MaskStore;
 use bottom::words::WordStore;
 use calendar::dispatch::Dispatch;
 use calendar::period::{Period, PeriodLength};
 use std::io;
 use store::fault::StoreFault;
-use store::store::WindowStore;
+use store::store::{WindowStore, read_window};
 
 const DISPATCH: u32 = 14;
 
@@ -16,7 +15,7 @@ const WEEK: u32 = 7;
 pub fn season(rt: &HostRuntime, words: &mut [u32]) -> io::Result<()> {
     println!(rt; "The house's windows, in days of the season")?;
     let mut house = WordStore::new(words);
-    show_windows(rt, &house)?;
+    show(rt, &house)?;
     println!(rt; "Lot 1 is to start on day 5 or later")?;
     told(rt, house.raise(1, 5))?;
     println!(rt; "Lot 0 is to start on day 9 or later, past its last day")?;
@@ -24,19 +23,19 @@ pub fn season(rt: &HostRuntime, words: &mut [u32]) -> io::Result<()> {
     println!(rt; "Lot 7 is to end on day 3 or earlier")?;
     told(rt, house.lower(7, 3))?;
     println!(rt; "Every window after the two refusals")?;
-    show_windows(rt, &house)
+    show(rt, &house)
 }
 
 // In days before dispatch, where a later first day is an earlier last day below.
 pub fn before_dispatch(rt: &HostRuntime, words: &mut [u32]) -> io::Result<()> {
     println!(rt; "The same house in days before dispatch, which is on day {DISPATCH}")?;
     let mut house = Dispatch::new(WordStore::new(words), DISPATCH);
-    show_windows(rt, &house)?;
+    show(rt, &house)?;
     println!(rt; "Lot 4 is to start 3 days before dispatch or later in this count")?;
     told(rt, house.raise(4, 3))?;
-    show_windows(rt, &house)?;
+    show(rt, &house)?;
     println!(rt; "Below, in days of the season")?;
-    show_windows(rt, &house.into_below())
+    show(rt, &house.into_below())
 }
 
 // In weeks, where an end moves to the edge of its week below.
@@ -46,14 +45,14 @@ pub fn in_weeks(rt: &HostRuntime, words: &mut [u32]) -> io::Result<()> {
     };
     println!(rt; "The same house in weeks of {WEEK} days")?;
     let mut house = Period::new(WordStore::new(words), week);
-    show_windows(rt, &house)?;
+    show(rt, &house)?;
     println!(rt; "Lot 1 is to start in week 1 or later")?;
     told(rt, house.raise(1, 1))?;
     println!(rt; "Lot 2 is to end in week 0")?;
     told(rt, house.lower(2, 0))?;
-    show_windows(rt, &house)?;
+    show(rt, &house)?;
     println!(rt; "Below, in days of the season")?;
-    show_windows(rt, &house.into_below())
+    show(rt, &house.into_below())
 }
 
 // One calendar over the other: any pile of layers is a store.
@@ -63,13 +62,13 @@ pub fn weeks_before_dispatch(rt: &HostRuntime, words: &mut [u32]) -> io::Result<
     };
     println!(rt; "The same house in weeks before dispatch")?;
     let mut house = Period::new(Dispatch::new(WordStore::new(words), DISPATCH), week);
-    show_windows(rt, &house)?;
+    show(rt, &house)?;
     println!(rt; "Lot 0 is to end in week 1 before dispatch: it does already")?;
     told(rt, house.lower(0, 1))?;
     println!(rt; "Lot 4 is to start in week 1 before dispatch or later, past its last")?;
     told(rt, house.raise(4, 1))?;
     println!(rt; "Below, in days of the season")?;
-    show_windows(rt, &house.into_below().into_below())?;
+    show(rt, &house.into_below().into_below())?;
     println!(rt; "Periods of 367 days are asked for")?;
     match PeriodLength::new(367) {
         Ok(_) => println!(rt; "  accepted"),
@@ -84,12 +83,23 @@ pub fn weeks_before_dispatch(rt: &HostRuntime, words: &mut [u32]) -> io::Result<
 pub fn masked(rt: &HostRuntime, masks: &mut [u64]) -> io::Result<()> {
     println!(rt; "A house on day masks: bits 3, 5 and 6, and a mask with no bit")?;
     let mut house = MaskStore::new(masks);
-    show_windows(rt, &house)?;
+    show(rt, &house)?;
     println!(rt; "Lot 0 is to start on day 4 or later")?;
     told(rt, house.raise(0, 4))?;
-    show_windows(rt, &house)?;
+    show(rt, &house)?;
     for mask in masks.iter() {
         println!(rt; "  mask {mask}")?;
+    }
+    Ok(())
+}
+
+fn show<S: WindowStore>(rt: &HostRuntime, house: &S) -> io::Result<()> {
+    for lot in 0..house.lots() {
+        if let Some(w) = read_window(house, lot) {
+            let low = w.low;
+            let high = w.high;
+            println!(rt; "  lot {lot}: {low} to {high}")?;
+        }
     }
     Ok(())
 }
@@ -97,7 +107,7 @@ pub fn masked(rt: &HostRuntime, masks: &mut [u64]) -> io::Result<()> {
 fn told(rt: &HostRuntime, answer: Result<(), StoreFault>) -> io::Result<()> {
     match answer {
         Ok(()) => println!(rt; "  accepted"),
-        Err(StoreFault::NoSuchLot(_)) => println!(rt; "  refused: no such lot"),
-        Err(StoreFault::WouldEmpty(_)) => println!(rt; "  refused: the window would be empty"),
+        Err(StoreFault::NoSuchLot) => println!(rt; "  refused: no such lot"),
+        Err(StoreFault::WouldEmpty) => println!(rt; "  refused: the window would be empty"),
     }
 }

@@ -1,4 +1,6 @@
 // A second solver beside the planner: small sheets are generated, settled and planned by both, and the answers are compared.
+#![tactic(auto)]
+
 mod brute;
 mod draw;
 mod planner;

@@ -1,4 +1,6 @@
 // dayplan: a sheet file from standard input; its plan, or one refusal line, to standard output. After a refusal it ends with status 1.
+#![tactic(auto)]
+
 use reply::reply::reply;
 use std::io;
 use std::io::{Read, Write};

@@ -1,4 +1,6 @@
 // The fewest and the most different days of a list of windows, and the mirror image. Internal: what these ask of their callers is proved in `count` and `tight`.
+#![tactic(auto)]
+
 pub mod matching;
 pub mod mirror;
 pub mod order;

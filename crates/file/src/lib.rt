@@ -1,4 +1,6 @@
 // Sheet files: a sheet's windows and rules as bytes, read and written.
+#![tactic(auto)]
+
 pub mod fault;
 pub mod laws;
 mod numbers;

@@ -1,4 +1,6 @@
 // Settle, plan and lists of calls on examples and at their edges. A crate of its own, so that the planner is proved once.
+#![tactic(auto)]
+
 #[cfg(test)]
 mod calendars;
 #[cfg(test)]

@@ -21,10 +21,10 @@ pub record Falls (ws : List Window) (p day : ℕ) : Type 0 where
   pub within : (window_at ws p).low ≤ day
 
 module _ (ws : List Window) (p day : ℕ) (low high : Option ℕ) (r : Result Step StoreFault) where
-  pub rises : low ≡ low_at ws p → high ≡ high_at ws p → Raising p low high day r → r ≡ Ok Moves → Rises ws p day
+  pub rises : low ≡ low_at ws p → high ≡ high_at ws p → Raising low high day r → r ≡ Ok Moves → Rises ws p day
   rises l h j e = grind (arith, nat_tests)
 
-  pub falls : low ≡ low_at ws p → high ≡ high_at ws p → Lowering p low high day r → r ≡ Ok Moves → Falls ws p day
+  pub falls : low ≡ low_at ws p → high ≡ high_at ws p → Lowering low high day r → r ≡ Ok Moves → Falls ws p day
   falls l h j e = grind (arith, nat_tests)
 
 -- a list with an end moved is another list

@@ -24,9 +24,9 @@ high_at ws place = cond (nat_lt place (length ws)) (Some (window_at ws place).hi
 -- A call that is to leave `moved` at a place of the list `was` answers `r` and leaves the list `is`.
 -- `Stays` says that the end is as far already, `Empties` that no day would be left.
 pub data Steps (was : List Window) (place : ℕ) (Stays Empties : Type 0) (moved : Window) (r : Result (Unit {0}) StoreFault) (is : List Window) : Type 0 where
-  no_such_lot : length was ≤ place → r ≡ Err (NoSuchLot place) → is ≡ was → Steps was place Stays Empties moved r is
+  no_such_lot : length was ≤ place → r ≡ Err NoSuchLot → is ≡ was → Steps was place Stays Empties moved r is
   stays : place < length was → Stays → r ≡ Ok tt → is ≡ was → Steps was place Stays Empties moved r is
-  would_empty : place < length was → (Stays → ⊥) → Empties → r ≡ Err (WouldEmpty place) → is ≡ was → Steps was place Stays Empties moved r is
+  would_empty : place < length was → (Stays → ⊥) → Empties → r ≡ Err WouldEmpty → is ≡ was → Steps was place Stays Empties moved r is
   moves : place < length was → (Stays → ⊥) → (Empties → ⊥) → r ≡ Ok tt → is ≡ slice_set was place moved → Steps was place Stays Empties moved r is
 
 -- raising a low end to a day

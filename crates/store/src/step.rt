@@ -10,43 +10,33 @@ pub enum Step {
     Moves,
 }
 
-// May the low end of the lot at a place move up to `day`?
-pub fn raising(
-    place: usize,
-    low: Option<u32>,
-    high: Option<u32>,
-    day: u32,
-) -> Result<Step, StoreFault>
-    ensures { Raising place low high day result }
+// May the low end move up to `day`?
+pub fn raising(low: Option<u32>, high: Option<u32>, day: u32) -> Result<Step, StoreFault>
+    ensures { Raising low high day result }
 {
     let (Some(low), Some(high)) = (low, high) else {
-        return Err(StoreFault::NoSuchLot(place));
+        return Err(StoreFault::NoSuchLot);
     };
     if day <= low {
         Ok(Step::Stays)
     } else if day > high {
-        Err(StoreFault::WouldEmpty(place))
+        Err(StoreFault::WouldEmpty)
     } else {
         Ok(Step::Moves)
     }
 }
 
-// May the high end of the lot at a place move down to `day`?
-pub fn lowering(
-    place: usize,
-    low: Option<u32>,
-    high: Option<u32>,
-    day: u32,
-) -> Result<Step, StoreFault>
-    ensures { Lowering place low high day result }
+// May the high end move down to `day`?
+pub fn lowering(low: Option<u32>, high: Option<u32>, day: u32) -> Result<Step, StoreFault>
+    ensures { Lowering low high day result }
 {
     let (Some(low), Some(high)) = (low, high) else {
-        return Err(StoreFault::NoSuchLot(place));
+        return Err(StoreFault::NoSuchLot);
     };
     if day >= high {
         Ok(Step::Stays)
     } else if day < low {
-        Err(StoreFault::WouldEmpty(place))
+        Err(StoreFault::WouldEmpty)
     } else {
         Ok(Step::Moves)
     }

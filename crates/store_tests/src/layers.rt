@@ -25,9 +25,9 @@ fn a_day_after_dispatch_shows_as_0(rt: HostRuntime) {
     assert_eq!(rt; read_window(&house, 0), Some(Window { low: 0, high: 0 }));
     assert_eq!(rt; house.raise(0, 0), Ok(()));
     assert_eq!(rt; house.lower(0, 0), Ok(()));
-    assert_eq!(rt; house.raise(0, 1), Err(StoreFault::WouldEmpty(0)));
-    assert_eq!(rt; house.raise(0, u32::MAX), Err(StoreFault::WouldEmpty(0)));
-    assert_eq!(rt; house.raise(1, 1), Err(StoreFault::NoSuchLot(1)));
+    assert_eq!(rt; house.raise(0, 1), Err(StoreFault::WouldEmpty));
+    assert_eq!(rt; house.raise(0, u32::MAX), Err(StoreFault::WouldEmpty));
+    assert_eq!(rt; house.raise(1, 1), Err(StoreFault::NoSuchLot));
     assert_eq!(rt; words, [7, 9]);
 }
 
@@ -39,7 +39,7 @@ fn weeks_move_to_their_edges(rt: HostRuntime) -> Result<(), Fail> {
     assert_eq!(rt; read_window(&house, 0), Some(Window { low: 0, high: 2 }));
     assert_eq!(rt; house.raise(0, 1), Ok(()));
     assert_eq!(rt; house.lower(0, 1), Ok(()));
-    assert_eq!(rt; house.lower(0, 0), Err(StoreFault::WouldEmpty(0)));
+    assert_eq!(rt; house.lower(0, 0), Err(StoreFault::WouldEmpty));
     assert_eq!(rt; words, [7, 13]);
     Ok(())
 }
@@ -50,7 +50,7 @@ fn periods_near_the_last_word(rt: HostRuntime) -> Result<(), Fail> {
     let mut words = [0, u32::MAX];
     let mut house = Period::new(WordStore::new(&mut words), year);
     assert_eq!(rt; house.high(0), Some(u32::MAX / 366));
-    assert_eq!(rt; house.raise(0, u32::MAX), Err(StoreFault::WouldEmpty(0)));
+    assert_eq!(rt; house.raise(0, u32::MAX), Err(StoreFault::WouldEmpty));
     assert_eq!(rt; house.raise(0, u32::MAX / 366), Ok(()));
     assert_eq!(rt; words, [u32::MAX / 366 * 366, u32::MAX]);
     Ok(())

@@ -66,14 +66,14 @@ impl<S: WindowStore> WindowStore for Period<S> {
     }
 
     fn raise(&mut self, place: usize, period: u32) -> Result<(), StoreFault> {
-        match raising(place, self.low(place), self.high(place), period)? {
+        match raising(self.low(place), self.high(place), period)? {
             Step::Stays => Ok(()),
             Step::Moves => self.below.raise(place, self.length.days * period),
         }
     }
 
     fn lower(&mut self, place: usize, period: u32) -> Result<(), StoreFault> {
-        match lowering(place, self.low(place), self.high(place), period)? {
+        match lowering(self.low(place), self.high(place), period)? {
             Step::Stays => Ok(()),
             Step::Moves => self
                 .below
