@@ -15,7 +15,6 @@ FALLS_TOGETHER = {
     "maskWindow": "window_of_mask",
     "beforeDispatch": "window_before_dispatch",
     "lotAt": "lot_in_file",
-    "all-days": "all_days_lem",
     "decimal-form": "decimal_form_lem",
     "nvalue-counts": "nvalue_counts_lem",
     "first-faulty": "first_faulty_lem",

@@ -1,8 +1,7 @@
 -- Laws of the order of lots: each slot names a lot of the stretch with its last day, each lot has one slot, and sums over slots are sums over lots.
 use Rattle.std.proofs.Common.{◌≡◌, ℕ, zero, suc, ◌+◌, ◌<◌, ◌≤◌, false, cond, eqb, ltb, List, [], ◌∷◌, length, get_or, take, sum_by, Less, sym, refl, ap, ◌∙◌, subst, inl, inr, arith}
-use Rattle.std.specs.Cmp.{pairs, nat_cmp_total}
 use Rattle.std.specs.Ordering.{is_lt, nat_cmp, ordering_then}
-use Rattle.std.specs.List.Sorted.{IsNonDecreasingBy, IsPermutation, IsSortedWithin}
+use Rattle.std.specs.List.Sorted.{IsNonDecreasingBy, IsPermutation, IsSortedBy}
 use Rattle.std.specs.List.{AllByRecursion as All}
 use Rattle.std.proofs.ByRecursion.{All-from_get_or, All-get_or, has_get_or, all_shuffled, has_shuffled}
 use Rattle.std.proofs.lemmas.List.Sorted.{length_permutation, IsNonDecreasingBy-from_all_adjacent, sum_by-IsPermutation}
@@ -27,14 +26,10 @@ get_or_slots k (w ∷ ws) (suc i) h =
 
 -- slots that were sorted rise by their last days
 slot_le : (x y : ℕ × ℕ) → is_lt (ordering_then (nat_cmp x.0 y.0) (nat_cmp x.1 y.1)) ≡ false → y.0 ≤ x.0
-slot_le x y f =
-    elim (cases_lt x.0 y.0) [
-      | inl l ↦ absurd (true≢false (ap is_lt ((pairs nat_cmp_total nat_cmp_total).says x y Less (Less, l, refl)) ∙ f))
-      | inr h ↦ h
-    ]
+slot_le x y f = grind (arith, nat_tests)
 
-pub sorted_rises : (order : List (ℕ × ℕ)) (n : ℕ) → length order ≡ n → IsSortedWithin (λ x y. is_lt (ordering_then (nat_cmp x.0 y.0) (nat_cmp x.1 y.1))) order 0 n → IsNonDecreasingBy (λ s. s.0) order
-sorted_rises order n e up =
+pub sorted_rises : (order : List (ℕ × ℕ)) → IsSortedBy (λ x y. is_lt (ordering_then (nat_cmp x.0 y.0) (nat_cmp x.1 y.1))) order → IsNonDecreasingBy (λ s. s.0) order
+sorted_rises order up =
     IsNonDecreasingBy-from_all_adjacent (λ s. s.0) order (λ k d h. slot_le (get_or order (k + 1) d) (get_or order k d) (up k d (omega arith) (omega arith)))
 
 -- a sum over slots is the sum over the lots that they name

@@ -23,7 +23,7 @@ pub record Packing (ws : List Window) (order : List (ℕ × ℕ)) (t : ℕ) (tak
   pub takers : List Taker
   pub overs : List Window
   pub last : ℕ
-  pub all_days_lem : length taken ≡ 10000
+  pub all_days : length taken ≡ 10000
   pub count : most.count ≡ length takers
   pub few : most.count ≤ t
   pub room : most.runs ≤ t
@@ -38,7 +38,7 @@ packing_none ws order days runs = record {
   takers = [];
   overs = [];
   last = 0;
-  all_days_lem = refl;
+  all_days = refl;
   count = refl;
   few = omega arith;
   room = omega arith;
@@ -86,12 +86,12 @@ module _ (ws : List Window) (order : List (ℕ × ℕ)) (shuffled : IsPermutatio
   packing_takes : Takes (window_at ws (lot_in_file order t)) day taken runs most taken' runs' most' → Packing ws order (t + 1) taken' (set days (lot_in_file order t) day) runs' most'
   packing_takes x =
       let w = window_at ws (lot_in_file order t) in
-      let here : day < length taken = omega (arith, x.inside.1, next_sound.1, p.all_days_lem) in
+      let here : day < length taken = omega (arith, x.inside.1, next_sound.1, p.all_days) in
       record {
         takers = (w, day) ∷ p.takers;
         overs = p.overs;
         last = w.high;
-        all_days_lem = ap length x.marked ∙ length-set taken day true ∙ p.all_days_lem;
+        all_days = ap length x.marked ∙ length-set taken day true ∙ p.all_days;
         count = omega (arith, x.count, p.count);
         few = omega (arith, x.count, p.few);
         room = omega (arith, x.top, p.room);
@@ -111,7 +111,7 @@ module _ (ws : List Window) (order : List (ℕ × ℕ)) (shuffled : IsPermutatio
         takers = p.takers;
         overs = w ∷ p.overs;
         last = w.high;
-        all_days_lem = ap length x.same ∙ p.all_days_lem;
+        all_days = ap length x.same ∙ p.all_days;
         count = x.count ∙ p.count;
         few = omega (arith, x.count, p.few);
         room = omega (arith, x.top, x.fewer, p.room);

@@ -15,7 +15,7 @@ pub fn order_by_high(windows: &[Window], order: &mut [Slot])
     ensures rises { IsNonDecreasingBy (λ s. s.0) order.new }
 {
     fill_slots(windows, order);
-    order.sort();
+    order.sort_unstable();
 }
 
 fn fill_slots(windows: &[Window], order: &mut [Slot])

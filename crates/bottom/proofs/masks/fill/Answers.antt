@@ -4,8 +4,8 @@ use Rattle.bottom.specs.Masks.{filled, Fills}
 use Rattle.bottom.proofs.Bits.{ones_shifted, fills}
 use Rattle.bottom.proofs.masks.fill.Goals as goal
 
-pub overflow-sub-result-3 : goal.overflow-sub-result-3
-overflow-sub-result-3 c =
+pub overflow_sub-result-3 : goal.overflow_sub-result-3
+overflow_sub-result-3 c =
     let low = one_shl c.args.low 64 (omega (arith, c.requires.ordered, c.requires.within)) in
     let high = ones_shifted c.args.high c.requires.within in
     omega (arith, pow_mono {i = c.args.low} {j = suc c.args.high} (omega (arith, c.requires.ordered)))

@@ -6,6 +6,6 @@ use Rattle.count.proofs.fewest.fewest.Goals as goal
 pub returns : goal.returns
 returns g c =
     record {
-      asked = c.fewest-on.ensures.asked (length c.args.work.now) (omega arith);
-      cleared = page_cleared c.args.work.now c.fewest-on.new.page (omega arith) (search (rules, places)) c.fewest-on.ensures.zero;
+      asked = c.fewest_on.ensures.asked (length c.args.work.now) (omega arith);
+      cleared = page_cleared c.args.work.now c.fewest_on.new.page (omega arith) (search (rules, places)) c.fewest_on.ensures.zero;
     }

@@ -7,24 +7,24 @@ use Rattle.store.specs.Sound.{Sound}
 use Rattle.nvalue.proofs.Stretches.{part_length}
 use Rattle.count.proofs.fewest.fewest_on.Goals as goal
 
-pub returns-in-err-prepare : goal.returns-in-err-prepare
-returns-in-err-prepare g c =
-    let e = err_from_is_err_and c.from-residual.result c.from-residual.ensures.1 in
+pub returns-in_err-prepare : goal.returns-in_err-prepare
+returns-in_err-prepare g c =
+    let e = err_from_is_err_and c.from_residual.result c.from_residual.ensures.1 in
     record {
-      asked = λ work enough. rw (e.1, e.2) (c.in-err-prepare.ensures work enough, refl);
+      asked = λ work enough. rw (e.1, e.2) (c.in_err-prepare.ensures work enough, refl);
       zero = c.drop-page.ensures;
     }
 
-pub slice-bounds-answer-fewest-end : goal.slice-bounds-answer-fewest-end
-slice-bounds-answer-fewest-end g c =
-    let asked = (c.in-ok-prepare.ensures 4096 (omega arith)).0 in
+pub slice_bounds-answer_fewest-end : goal.slice_bounds-answer_fewest-end
+slice_bounds-answer_fewest-end g c =
+    let asked = (c.in_ok-prepare.ensures 4096 (omega arith)).0 in
     let few = asked.few in
     let within = asked.within in
     search rules
 
-pub answer-fewest-requires : goal.answer-fewest-requires
-answer-fewest-requires g c =
-    let asked = c.in-ok-prepare.ensures 4096 (omega arith) in
+pub answer_fewest-requires : goal.answer_fewest-requires
+answer_fewest-requires g c =
+    let asked = c.in_ok-prepare.ensures 4096 (omega arith) in
     let len = c.args.stretch.length in
     let z : len - 0 ≡ len = omega arith in
     let taken = ap (λ n. take n c.prepare.new.windows) z ∙ asked.1 in
@@ -42,8 +42,8 @@ returns g c =
     let z : len - 0 ≡ len = omega arith in
     record {
       asked = λ work enough.
-          let asked = c.in-ok-prepare.ensures work enough in
+          let asked = c.in_ok-prepare.ensures work enough in
           let taken = ap (λ n. take n c.prepare.new.windows) z ∙ asked.1 in
-          (asked.0, subst (λ ws. FewestAnswer ws c.args.stretch.first c.args.answer.now c.answer-fewest.new.answer c.answer-fewest.result) taken c.answer-fewest.ensures);
+          (asked.0, subst (λ ws. FewestAnswer ws c.args.stretch.first c.args.answer.now c.answer_fewest.new.answer c.answer_fewest.result) taken c.answer_fewest.ensures);
       zero = c.drop-page-2.ensures;
     }

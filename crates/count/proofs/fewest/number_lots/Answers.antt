@@ -3,8 +3,8 @@ use Rattle.std.proofs.ByRecursion.{All-get_or}
 use Rattle.std.proofs.lemmas.List.{map_more, take_all, take_more_set}
 use Rattle.count.proofs.fewest.number_lots.Goals as goal
 
-pub overflow-add-numbers : goal.overflow-add-numbers
-overflow-add-numbers c =
+pub overflow_add-numbers : goal.overflow_add-numbers
+overflow_add-numbers c =
     let small = All-get_or (λ p. p < 256) c.args.places.now c.loop-i.i 0 (omega arith) c.requires.small in
     let within = c.requires.within in
     search rules

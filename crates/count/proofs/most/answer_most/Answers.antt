@@ -7,29 +7,29 @@ use Rattle.count.proofs.Answered.{written, most_answered}
 use Rattle.count.proofs.Crowded.{runs_half}
 use Rattle.count.proofs.most.answer_most.Goals as goal
 
-pub slice-bounds-write-runs-end-2 : goal.slice-bounds-write-runs-end-2
-slice-bounds-write-runs-end-2 c =
-    let s = c.most-of-most.result.runs in
-    let shown = c.most-of-most.ensures.shown in
+pub slice_bounds-write_runs-end-2 : goal.slice_bounds-write_runs-end-2
+slice_bounds-write_runs-end-2 c =
+    let s = c.most_of-most.result.runs in
+    let shown = c.most_of-most.ensures.shown in
     let half = runs_half _ _ _ _ shown in
-    let many = length-take-le s c.most-of-most.new.runs c.most-of-most.ensures.room in
-    let each = choice_length c.args.windows.now c.most-of-most.new.days shown.choice in
+    let many = length-take-le s c.most_of-most.new.runs c.most_of-most.ensures.room in
+    let each = choice_length c.args.windows.now c.most_of-most.new.days shown.choice in
     let fits : 2 * s ≤ length c.args.windows.now = omega arith in
     search (rules, places)
 
 pub returns : goal.returns
 returns c =
     let n = length c.args.windows.now in
-    let s = c.most-of-most.result.runs in
+    let s = c.most_of-most.result.runs in
     let was = c.args.answer.now in
-    let days = c.most-of-most.new.days in
-    let words = c.write-runs.new.words in
-    let shown = c.most-of-most.ensures.shown in
+    let days = c.most_of-most.new.days in
+    let words = c.write_runs.new.words in
+    let shown = c.most_of-most.ensures.shown in
     let each : length days ≡ n = choice_length c.args.windows.now days shown.choice in
-    let many = length-take-le s c.most-of-most.new.runs c.most-of-most.ensures.room in
+    let many = length-take-le s c.most_of-most.new.runs c.most_of-most.ensures.room in
     let z : s - 0 ≡ s = omega arith in
-    let are : paired words ≡ take s c.most-of-most.new.runs = c.write-runs.ensures ∙ ap (λ k. take k c.most-of-most.new.runs) z in
+    let are : paired words ≡ take s c.most_of-most.new.runs = c.write_runs.ensures ∙ ap (λ k. take k c.most_of-most.new.runs) z in
     let half = runs_half _ _ _ _ shown in
     let long : length words ≡ 2 * s = search (rules, places) in
-    subst (λ is. MostAnswer c.args.windows.now was is c.most-of-most.result.count s) (sym (written was days words n (2 * s) each))
-    (most_answered c.args.windows.now _ c.most-of-most.result.count s was days words each shown many are long)
+    subst (λ is. MostAnswer c.args.windows.now was is c.most_of-most.result.count s) (sym (written was days words n (2 * s) each))
+    (most_answered c.args.windows.now _ c.most_of-most.result.count s was days words each shown many are long)

@@ -6,6 +6,6 @@ use Rattle.count.proofs.most.most.Goals as goal
 pub returns : goal.returns
 returns g c =
     record {
-      asked = c.most-on.ensures.asked (length c.args.work.now) (omega arith);
-      cleared = page_cleared c.args.work.now c.most-on.new.page (omega arith) (search (rules, places)) c.most-on.ensures.zero;
+      asked = c.most_on.ensures.asked (length c.args.work.now) (omega arith);
+      cleared = page_cleared c.args.work.now c.most_on.new.page (omega arith) (search (rules, places)) c.most_on.ensures.zero;
     }

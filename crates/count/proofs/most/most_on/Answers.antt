@@ -7,24 +7,24 @@ use Rattle.store.specs.Sound.{Sound}
 use Rattle.nvalue.proofs.Stretches.{part_length}
 use Rattle.count.proofs.most.most_on.Goals as goal
 
-pub returns-in-err-prepare : goal.returns-in-err-prepare
-returns-in-err-prepare g c =
-    let e = err_from_is_err_and c.from-residual.result c.from-residual.ensures.1 in
+pub returns-in_err-prepare : goal.returns-in_err-prepare
+returns-in_err-prepare g c =
+    let e = err_from_is_err_and c.from_residual.result c.from_residual.ensures.1 in
     record {
-      asked = λ work enough. rw (e.1, e.2) (c.in-err-prepare.ensures work enough, refl);
+      asked = λ work enough. rw (e.1, e.2) (c.in_err-prepare.ensures work enough, refl);
       zero = c.drop-page.ensures;
     }
 
-pub slice-bounds-answer-most-end : goal.slice-bounds-answer-most-end
-slice-bounds-answer-most-end g c =
-    let asked = (c.in-ok-prepare.ensures 4096 (omega arith)).0 in
+pub slice_bounds-answer_most-end : goal.slice_bounds-answer_most-end
+slice_bounds-answer_most-end g c =
+    let asked = (c.in_ok-prepare.ensures 4096 (omega arith)).0 in
     let few = asked.few in
     let within = asked.within in
     search rules
 
-pub answer-most-requires : goal.answer-most-requires
-answer-most-requires g c =
-    let asked = c.in-ok-prepare.ensures 4096 (omega arith) in
+pub answer_most-requires : goal.answer_most-requires
+answer_most-requires g c =
+    let asked = c.in_ok-prepare.ensures 4096 (omega arith) in
     let len = c.args.stretch.length in
     let z : len - 0 ≡ len = omega arith in
     let taken = ap (λ n. take n c.prepare.new.windows) z ∙ asked.1 in
@@ -41,8 +41,8 @@ returns g c =
     let z : len - 0 ≡ len = omega arith in
     record {
       asked = λ work enough.
-          let asked = c.in-ok-prepare.ensures work enough in
+          let asked = c.in_ok-prepare.ensures work enough in
           let taken = ap (λ n. take n c.prepare.new.windows) z ∙ asked.1 in
-          (asked.0, subst (λ ws. MostAnswer ws c.args.answer.now c.answer-most.new.answer c.answer-most.result.count c.answer-most.result.runs) taken c.answer-most.ensures);
+          (asked.0, subst (λ ws. MostAnswer ws c.args.answer.now c.answer_most.new.answer c.answer_most.result.count c.answer_most.result.runs) taken c.answer_most.ensures);
       zero = c.drop-page-2.ensures;
     }

@@ -10,7 +10,7 @@ loop-i-preserved c =
     let i = c.loop-i.i in
     let n = paired_length c.loop-i.words in
     let b : i < length (paired c.loop-i.words) = omega (arith, c.requires) in
-    subst (λ ws. take (i + 1) ws ≡ take (i + 1) c.args.runs.now) (sym c.put-window.ensures)
+    subst (λ ws. take (i + 1) ws ≡ take (i + 1) c.args.runs.now) (sym c.put_window.ensures)
     (copy_more (paired c.loop-i.words) c.args.runs.now i _ b (omega arith) c.loop-i.invariant refl)
 
 pub returns : goal.returns

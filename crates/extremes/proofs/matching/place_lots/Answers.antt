@@ -19,25 +19,25 @@ names_lot ws order shuffled t l = slot_there ws order shuffled t (omega (arith, 
 pub loop-slot-init : goal.loop-slot-init
 loop-slot-init c = packing_none _ _ _ _
 
-pub offset-bounds-windows-place : goal.offset-bounds-windows-place
-offset-bounds-windows-place c = let lot = names_lot _ _ c.requires.shuffled c.loop-slot.slot-index (omega arith) in search rules
+pub offset_bounds-windows-place : goal.offset_bounds-windows-place
+offset_bounds-windows-place c = let lot = names_lot _ _ c.requires.shuffled c.loop-slot.slot-index (omega arith) in search rules
 
 pub bounds-windows-place : goal.bounds-windows-place
 bounds-windows-place c = names_lot _ _ c.requires.shuffled c.loop-slot.slot-index (omega arith)
 
-pub place-lot-requires : goal.place-lot-requires
-place-lot-requires c =
+pub place_lot-requires : goal.place_lot-requires
+place_lot-requires c =
     let p = c.loop-slot.invariant in
     let n = length_order _ _ c.requires.shuffled in
     record {
       sound = All-get_or Sound c.args.windows.now _ (window 0 0) (names_lot _ _ c.requires.shuffled c.loop-slot.slot-index (omega arith)) c.requires.sound;
-      all_days_lem = p.all_days_lem;
+      all_days = p.all_days;
       room = omega (arith, p.room);
       few = omega (arith, p.few);
     }
 
-pub offset-bounds-days-place : goal.offset-bounds-days-place
-offset-bounds-days-place c = let lot = names_lot _ _ c.requires.shuffled c.loop-slot.slot-index (omega arith) in search rules
+pub offset_bounds-days-place : goal.offset_bounds-days-place
+offset_bounds-days-place c = let lot = names_lot _ _ c.requires.shuffled c.loop-slot.slot-index (omega arith) in search rules
 
 pub bounds-days-place : goal.bounds-days-place
 bounds-days-place c = let lot = names_lot _ _ c.requires.shuffled c.loop-slot.slot-index (omega arith) in search rules
@@ -45,7 +45,7 @@ bounds-days-place c = let lot = names_lot _ _ c.requires.shuffled c.loop-slot.sl
 pub loop-slot-preserved : goal.loop-slot-preserved
 loop-slot-preserved c =
     let n = length_order _ _ c.requires.shuffled in
-    packing_more _ _ c.requires.shuffled c.requires.rises c.requires.sound _ _ _ _ _ c.loop-slot.invariant (omega arith) (omega arith) (omega arith) _ _ _ _ c.place-lot.ensures
+    packing_more _ _ c.requires.shuffled c.requires.rises c.requires.sound _ _ _ _ _ c.loop-slot.invariant (omega arith) (omega arith) (omega arith) _ _ _ _ c.place_lot.ensures
 
 pub returns : goal.returns
 returns c =

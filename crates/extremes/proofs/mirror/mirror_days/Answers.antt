@@ -9,7 +9,7 @@ loop-i-preserved c =
     let i = c.loop-i.i in
     let was = c.args.days.now in
     let b : i < length c.loop-i.days = omega arith in
-    ap (set c.loop-i.days i) c.flip-day.ensures
+    ap (set c.loop-i.days i) c.flip_day.ensures
     ∙ map_over_more flip was c.loop-i.days i (get_or c.loop-i.days i 0) (omega arith) c.loop-i.invariant
     (get_or_default c.loop-i.days i 0 (get_or c.loop-i.days i 0) b)
 

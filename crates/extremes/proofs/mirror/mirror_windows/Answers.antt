@@ -8,7 +8,7 @@ pub loop-i-preserved : goal.loop-i-preserved
 loop-i-preserved c =
     let i = c.loop-i.i in
     take_more_set c.loop-i.image i _ (omega (arith, c.requires))
-    ∙ ap₂ (λ xs w. xs ++ w ∷ []) c.loop-i.invariant (ap₂ window c.flip-day.ensures c.flip-day-in-loop-i.ensures)
+    ∙ ap₂ (λ xs w. xs ++ w ∷ []) c.loop-i.invariant (ap₂ window c.flip_day.ensures c.flip_day-in-loop-i.ensures)
     ∙ sym (map_more mirrored c.args.windows.now i (window 0 0) (omega arith))
 
 pub returns : goal.returns

@@ -5,6 +5,6 @@ use Rattle.extremes.proofs.order.order_by_high.Goals as goal
 
 pub returns : goal.returns
 returns c = record {
-  shuffled = subst (λ slots. IsPermutation slots c.sort.new.self) c.fill-slots.ensures c.sort.ensures.permutation;
-  rises = sorted_rises c.sort.new.self _ c.sort.ensures.len c.sort.ensures.sorted;
+  shuffled = subst (λ slots. IsPermutation slots c.sort_unstable.new.self) c.fill_slots.ensures c.sort_unstable.ensures.permutation;
+  rises = sorted_rises c.sort_unstable.new.self c.sort_unstable.ensures.sorted;
 }

@@ -6,7 +6,7 @@ use Rattle.extremes.proofs.points.serve.Goals.{then-count-eq0, then-count-eq0-vi
 
 pub loop-t-preserved : goal.loop-t-preserved
 loop-t-preserved c =
-    let slot = c.slot-at-high.ensures.value in
+    let slot = c.slot_at-high.ensures.value in
     let days : length c.loop-t.days ≡ length c.args.windows.now = omega arith in
     let lots : length c.args.windows.now ≤ length c.loop-t.lots = omega arith in
     elim c.if-count-eq0.branch [

@@ -4,11 +4,11 @@ use Rattle.file.proofs.read.read.Goals as goal
 
 pub returns : goal.returns
 returns c =
-    let t = c.in-ok-trailer.ensures in
+    let t = c.in_ok-trailer.ensures in
     let file = c.args.file.now in
     let n = c.from-lots.result in
     let m = c.from-rules.result in
     let same : 4 * n + 8 * m - 4 * n ≡ 8 * m = omega arith in
     read_held file c.args.words.now _ (λ i. omega (arith, c.type-inv.file i)) t.0 (omega arith, omega arith, omega arith, omega arith)
-    _ n m (c.from-lots.ensures ∙ t.2) (c.from-rules.ensures ∙ t.3) (omega arith) c.read-lots.ensures.lots c.read-lots.ensures.small c.read-lots.ensures.rest refl refl
+    _ n m (c.from-lots.ensures ∙ t.2) (c.from-rules.ensures ∙ t.3) (omega arith) c.read_lots.ensures.lots c.read_lots.ensures.small c.read_lots.ensures.rest refl refl
     (ap (λ k. take k (drop (4 * n) file)) same)

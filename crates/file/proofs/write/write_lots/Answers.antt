@@ -8,12 +8,12 @@ use Rattle.file.proofs.Bytes.{length_lots}
 use Rattle.file.proofs.Over.{lot_small, over_joined}
 use Rattle.file.proofs.write.write_lots.Goals as goal
 
-pub write-lot-requires : goal.write-lot-requires
-write-lot-requires c =
+pub write_lot-requires : goal.write_lot-requires
+write_lot-requires c =
     let ws = paired c.args.words.now in
     let n = paired_length c.args.words.now in
     record {
-      small = lot_small ws c.args.lots c.loop-lot.lot _ (omega arith) (omega arith) c.requires.sound c.window-in.ensures;
+      small = lot_small ws c.args.lots c.loop-lot.lot _ (omega arith) (omega arith) c.requires.sound c.window_in.ensures;
       room = omega arith;
     }
 
@@ -24,4 +24,4 @@ loop-lot-preserved c =
     let i = c.loop-lot.lot in
     let long = length_lots (take i ws) in
     let many = length-take-le i ws (omega arith) in
-    over_joined lot_bytes c.args.bytes.now c.loop-lot.bytes _ 0 (4 * i) ws i (window 0 0) _ (omega arith) c.window-in.ensures (omega arith) (omega arith) c.loop-lot.invariant c.write-lot.ensures
+    over_joined lot_bytes c.args.bytes.now c.loop-lot.bytes _ 0 (4 * i) ws i (window 0 0) _ (omega arith) c.window_in.ensures (omega arith) (omega arith) c.loop-lot.invariant c.write_lot.ensures

@@ -6,5 +6,5 @@ use Rattle.file.proofs.write.write_rule.Goals as goal
 pub returns : goal.returns
 returns c =
     let r = c.args.row in
-    over_record c.args.bytes.now c.args.start c.write-number.new.bytes c.write-number-2.new.bytes c.write-number-3.new.bytes _ r.first r.length r.floor (two r.ceiling) (omega arith)
-    c.write-number.ensures c.write-number-2.ensures c.write-number-3.ensures c.write-number-4.ensures
+    over_record c.args.bytes.now c.args.start c.write_number.new.bytes c.write_number-2.new.bytes c.write_number-3.new.bytes _ r.first r.length r.floor (two r.ceiling) (omega arith)
+    c.write_number.ensures c.write_number-2.ensures c.write_number-3.ensures c.write_number-4.ensures

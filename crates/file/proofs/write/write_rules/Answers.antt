@@ -10,9 +10,9 @@ use Rattle.file.proofs.write.write_rules.Goals as goal
 pub loop-number-init : goal.loop-number-init
 loop-number-init c = sym (over_none c.args.bytes.now c.args.start)
 
-pub write-rule-requires : goal.write-rule-requires
-write-rule-requires c = record {
-  small = rule_small c.args.book.now c.loop-number.number _ (omega arith) c.requires.lots c.row-at.ensures;
+pub write_rule-requires : goal.write_rule-requires
+write_rule-requires c = record {
+  small = rule_small c.args.book.now c.loop-number.number _ (omega arith) c.requires.lots c.row_at.ensures;
   room = omega arith;
 }
 
@@ -22,7 +22,7 @@ loop-number-preserved c =
     let i = c.loop-number.number in
     let long = length_rules (take i rows) in
     let many = length-take-le i rows (omega arith) in
-    over_joined rule_bytes c.args.bytes.now c.loop-number.bytes _ c.args.start (c.args.start + 8 * i) rows i (row 0 0 0 0) _ (omega arith) c.row-at.ensures (omega arith) (omega arith) c.loop-number.invariant c.write-rule.ensures
+    over_joined rule_bytes c.args.bytes.now c.loop-number.bytes _ c.args.start (c.args.start + 8 * i) rows i (row 0 0 0 0) _ (omega arith) c.row_at.ensures (omega arith) (omega arith) c.loop-number.invariant c.write_rule.ensures
 
 pub returns : goal.returns
 returns c =

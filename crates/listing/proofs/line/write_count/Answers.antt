@@ -9,5 +9,5 @@ returns c =
     let one = entry_length (codes "days ") c.args.count in
     record {
       long = omega (arith, count_length c.args.count);
-      written = over_then a (10 ∷ []) c.args.out.now c.write-entry-end.new.out c.write-text.new.out c.write-entry-end.result (omega arith) c.write-entry-end.ensures.written c.write-text.ensures.written;
+      written = over_then a (10 ∷ []) c.args.out.now c.write_entry-end.new.out c.write_text.new.out c.write_entry-end.result (omega arith) c.write_entry-end.ensures.written c.write_text.ensures.written;
     }

@@ -6,5 +6,5 @@ pub returns : goal.returns
 returns c =
     record {
       long = omega arith;
-      written = over_then c.args.word.now (decimal c.args.n) c.args.out.now c.write-text-end.new.out c.write-number.new.out c.write-text-end.result c.write-text-end.ensures.long c.write-text-end.ensures.written c.write-number.ensures.written;
+      written = over_then c.args.word.now (decimal c.args.n) c.args.out.now c.write_text-end.new.out c.write_number.new.out c.write_text-end.result c.write_text-end.ensures.long c.write_text-end.ensures.written c.write_number.ensures.written;
     }

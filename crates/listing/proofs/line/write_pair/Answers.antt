@@ -10,13 +10,13 @@ returns c =
     let a = entry c.args.word.now c.args.m in
     let b = entry c.args.other.now c.args.n in
     let was = c.args.out.now in
-    let first = c.write-entry-first.result in
-    let mid = c.write-entry-first.new.out in
-    let both = put_mid first (length mid - first) mid c.write-entry.new.out in
+    let first = c.write_entry-first.result in
+    let mid = c.write_entry-first.new.out in
+    let both = put_mid first (length mid - first) mid c.write_entry.new.out in
     let one = entry_length c.args.word.now c.args.m in
     let other = entry_length c.args.other.now c.args.n in
-    let two : both ≡ over (a ++ b) was = over_then a b was mid c.write-entry.new.out first (omega arith) c.write-entry-first.ensures.written c.write-entry.ensures.written in
+    let two : both ≡ over (a ++ b) was = over_then a b was mid c.write_entry.new.out first (omega arith) c.write_entry-first.ensures.written c.write_entry.ensures.written in
     record {
       long = omega (arith, pair_length c.args.word.now c.args.m c.args.other.now c.args.n);
-      written = over_then (a ++ b) (10 ∷ []) was both c.write-text.new.out (first + c.write-entry.result) (omega (arith, length-append a b)) two c.write-text.ensures.written;
+      written = over_then (a ++ b) (10 ∷ []) was both c.write_text.new.out (first + c.write_entry.result) (omega (arith, length-append a b)) two c.write_text.ensures.written;
     }

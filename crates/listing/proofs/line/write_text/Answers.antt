@@ -6,5 +6,5 @@ pub returns : goal.returns
 returns c =
     record {
       long = refl;
-      written = over_front c.args.text.now c.args.out.now c.copy-from-slice.new.self _ (omega arith) c.copy-from-slice.ensures.after;
+      written = over_front c.args.text.now c.args.out.now c.copy_from_slice.new.self _ (omega arith) c.copy_from_slice.ensures.after;
     }

@@ -5,22 +5,22 @@ use Rattle.listing.proofs.Lines.{list_is, list_length}
 use Rattle.listing.proofs.Over.{count_length, lent_length, over_then}
 use Rattle.listing.proofs.list.list.Goals as goal
 
-pub returns-then-out-list-length : goal.returns-then-out-list-length
-returns-then-out-list-length c =
-    let same = ap (λ count. length (count_line count)) c.different-days-count.ensures.value in
-    short_bytes (omega arith) (omega (arith, c.list-length.ensures, list_length c.args.days.now)) refl refl
+pub returns-then-out-list_length : goal.returns-then-out-list_length
+returns-then-out-list_length c =
+    let same = ap (λ count. length (count_line count)) c.different_days-count.ensures.value in
+    short_bytes (omega arith) (omega (arith, c.list_length.ensures, list_length c.args.days.now)) refl refl
 
-pub write-count-requires : goal.write-count-requires
-write-count-requires c =
-    omega (arith, c.list-length.ensures, count_length c.different-days-count.result, c.write-lots-end.ensures.long, lent_length c.write-lots-end.new.out c.write-lots-end.result)
+pub write_count-requires : goal.write_count-requires
+write_count-requires c =
+    omega (arith, c.list_length.ensures, count_length c.different_days-count.result, c.write_lots-end.ensures.long, lent_length c.write_lots-end.new.out c.write_lots-end.result)
 
 pub returns : goal.returns
 returns c =
     let days = c.args.days.now in
     let was = c.args.out.now in
-    let count = c.different-days-count.result in
-    let whole : lines_from 0 days ++ count_line count ≡ list_of days = ap (λ n. lines_from 0 days ++ count_line n) c.different-days-count.ensures.value ∙ sym (list_is days) in
-    let same = ap (λ n. length (count_line n)) c.different-days-count.ensures.value in
-    let long : c.write-lots-end.result + c.write-count.result ≡ length (list_of days) = omega (arith, c.write-lots-end.ensures.long, c.write-count.ensures.long, list_length days) in
-    listed (omega arith) (omega (arith, c.list-length.ensures, list_length days)) (ap Ok long)
-    (over_then (lines_from 0 days) (count_line count) was c.write-lots-end.new.out c.write-count.new.out c.write-lots-end.result c.write-lots-end.ensures.long c.write-lots-end.ensures.written c.write-count.ensures.written ∙ ap (λ text. over text was) whole)
+    let count = c.different_days-count.result in
+    let whole : lines_from 0 days ++ count_line count ≡ list_of days = ap (λ n. lines_from 0 days ++ count_line n) c.different_days-count.ensures.value ∙ sym (list_is days) in
+    let same = ap (λ n. length (count_line n)) c.different_days-count.ensures.value in
+    let long : c.write_lots-end.result + c.write_count.result ≡ length (list_of days) = omega (arith, c.write_lots-end.ensures.long, c.write_count.ensures.long, list_length days) in
+    listed (omega arith) (omega (arith, c.list_length.ensures, list_length days)) (ap Ok long)
+    (over_then (lines_from 0 days) (count_line count) was c.write_lots-end.new.out c.write_count.new.out c.write_lots-end.result c.write_lots-end.ensures.long c.write_lots-end.ensures.written c.write_count.ensures.written ∙ ap (λ text. over text was) whole)

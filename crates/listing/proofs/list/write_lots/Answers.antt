@@ -8,12 +8,12 @@ use Rattle.listing.proofs.list.write_lots.Goals as goal
 pub loop-lot-init : goal.loop-lot-init
 loop-lot-init c = (sym (ap length (lines_none 0)), sym (ap (λ text. over text c.args.out.now) (lines_none 0)), omega arith)
 
-pub write-lot-end-requires : goal.write-lot-end-requires
-write-lot-end-requires c =
+pub write_lot-end-requires : goal.write_lot-end-requires
+write_lot-end-requires c =
     omega (arith, c.requires, c.loop-lot.invariant.0, lines_room c.args.days.now c.loop-lot.lot (omega arith), lent_length c.loop-lot.out c.loop-lot.end)
 
-pub overflow-add-end : goal.overflow-add-end
-overflow-add-end c = omega (arith, c.requires, c.loop-lot.invariant.0, c.write-lot-end.ensures.long, lines_room c.args.days.now c.loop-lot.lot (omega arith))
+pub overflow_add-end : goal.overflow_add-end
+overflow_add-end c = omega (arith, c.requires, c.loop-lot.invariant.0, c.write_lot-end.ensures.long, lines_room c.args.days.now c.loop-lot.lot (omega arith))
 
 pub loop-lot-preserved : goal.loop-lot-preserved
 loop-lot-preserved c =
@@ -21,10 +21,10 @@ loop-lot-preserved c =
     let lot = c.loop-lot.lot in
     let more = lines_more_length days lot (omega arith) in
     let room = lines_room days lot (omega arith) in (
-      omega (arith, c.loop-lot.invariant.0, c.write-lot-end.ensures.long),
-      over_then (lines_from 0 (take lot days)) (lot_line lot (get_or days lot 0)) c.args.out.now c.loop-lot.out c.write-lot-end.new.out c.loop-lot.end c.loop-lot.invariant.0 c.loop-lot.invariant.1 c.write-lot-end.ensures.written
+      omega (arith, c.loop-lot.invariant.0, c.write_lot-end.ensures.long),
+      over_then (lines_from 0 (take lot days)) (lot_line lot (get_or days lot 0)) c.args.out.now c.loop-lot.out c.write_lot-end.new.out c.loop-lot.end c.loop-lot.invariant.0 c.loop-lot.invariant.1 c.write_lot-end.ensures.written
           ∙ ap (λ text. over text c.args.out.now) (sym (lines_more days lot (omega arith))),
-      omega (arith, c.loop-lot.invariant.0, c.write-lot-end.ensures.long),
+      omega (arith, c.loop-lot.invariant.0, c.write_lot-end.ensures.long),
     )
 
 pub returns : goal.returns

@@ -28,7 +28,7 @@ loop-number-preserved c =
 
 pub returns : goal.returns
 returns c =
-    let none = c.in-default.ensures in
+    let none = c.in_default.ensures in
     record {
       firm = λ _. narrowing_ends c.args.windows.now (rules_of c.args.book.now) c.loop-number.windows (rules_of c.loop-number.book) c.loop-number.due c.loop-number.invariant.0
           (rules_ordered c.loop-number.book) (λ q h. none q (omega (arith, c.rules.ensures)));

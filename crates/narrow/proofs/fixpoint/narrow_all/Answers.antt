@@ -13,6 +13,6 @@ narrow-requires c =
       lots = c.requires.lots;
       few = c.requires.few;
       sound = c.requires.sound;
-      flags = ap length c.all-due-due.ensures;
-      clean = λ k h e. let t : true ≡ false = sym (ap (λ due. get_or due k true) c.all-due-due.ensures ∙ stands 32 k) ∙ e in let z : ◌≡◌ {A = ℕ} 0 1 = cc in absurd (omega arith);
+      flags = ap length c.all_due-due.ensures;
+      clean = λ k h e. let t : true ≡ false = sym (ap (λ due. get_or due k true) c.all_due-due.ensures ∙ stands 32 k) ∙ e in let z : ◌≡◌ {A = ℕ} 0 1 = cc in absurd (omega arith);
     }

@@ -1,5 +1,5 @@
 -- The loop counts, from the last day back, each day that does not occur again.
-use Rattle.std.proofs.Common.{◌≡◌, ℕ, ◌+◌, ◌-◌, ◌<◌, ◌≤◌, Bool, true, false, eqb, List, length, get_or, take, drop, Decides, sym, ap, ◌∙◌, subst, arith}
+use Rattle.std.proofs.Common.{◌≡◌, ℕ, ◌+◌, ◌-◌, ◌<◌, ◌≤◌, Bool, true, false, eqb, List, length, get_or, take, drop, sym, ap, ◌∙◌, subst, arith}
 use Rattle.std.specs.List.{IsAnyAnswer}
 use Rattle.std.proofs.lemmas.List.Elements.{contains_decides}
 use Rattle.std.proofs.lemmas.List.{at_drop_all, at_drop_more, length-drop, take_rest}
@@ -10,7 +10,7 @@ use Rattle.nvalue.proofs.count.different_days.Goals as goal
 
 -- one day more: it counts where it is not among the days after it
 counts_more : (xs : List ℕ) (i n : ℕ) (r : Bool) → 0 < i → i ≤ length xs → n ≡ nvalue (drop i xs)
-    → IsAnyAnswer (λ y t. Decides t (y ≡ get_or xs (i - 1) 0)) (take (length xs - (i - 1 + 1)) (drop (i - 1 + 1) xs)) r
+    → IsAnyAnswer (λ y t. eqb y (get_or xs (i - 1) 0) ≡ t) (take (length xs - (i - 1 + 1)) (drop (i - 1 + 1) xs)) r
     → (r ≡ false → n + 1 ≡ nvalue (drop (i - 1) xs)) × (r ≡ true → n ≡ nvalue (drop (i - 1) xs))
 counts_more xs i n r p l e s =
     let x = get_or xs (i - 1) 0 in
@@ -23,8 +23,8 @@ counts_more xs i n r p l e s =
 pub loop-i-init : goal.loop-i-init
 loop-i-init c = sym (at_drop_all nvalue c.args.days.now (length c.args.days.now) (omega arith))
 
-pub overflow-add-count : goal.overflow-add-count
-overflow-add-count c =
+pub overflow_add-count : goal.overflow_add-count
+overflow_add-count c =
     let xs = c.args.days.now in
     omega (arith, nvalue_le_length (drop c.loop-i.i xs), length-drop c.loop-i.i xs)
 

@@ -11,7 +11,7 @@ loop-lot-preserved g c =
     let n = paired_length c.loop-lot.page in
     let b : c.loop-lot.lot < length (paired c.loop-lot.page) = omega (arith, c.requires, c.lots-lot-end.ensures) in
     let h : c.loop-lot.lot < length ws = omega (arith, c.lots-lot-end.ensures) in
-    subst (λ page. take (c.loop-lot.lot + 1) page ≡ take (c.loop-lot.lot + 1) ws) (sym c.copy-window.ensures)
+    subst (λ page. take (c.loop-lot.lot + 1) page ≡ take (c.loop-lot.lot + 1) ws) (sym c.copy_window.ensures)
     (copy_more (paired c.loop-lot.page) ws c.loop-lot.lot _ b h c.loop-lot.invariant refl)
 
 pub returns : goal.returns

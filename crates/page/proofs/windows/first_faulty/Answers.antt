@@ -10,7 +10,7 @@ returns-then-w c =
     let n = paired_length c.args.page.now in
     first_faulty_lem (paired c.args.page.now) c.args.lots (omega (arith, c.requires)) c.loop-lot.lot c.loop-lot-test.true
     (λ good.
-    let s = subst Sound (sym c.window-in-w.ensures) good in
+    let s = subst Sound (sym c.window_in-w.ensures) good in
     elim c.then-w.either [ inl a ↦ omega (arith, s.0) | inr b ↦ omega (arith, s.1, b.1) ])
     c.loop-lot.invariant
 

@@ -6,26 +6,26 @@ use Rattle.plan.specs.Planned.{Planned, refused}
 use Rattle.plan.specs.Ready.{Ready}
 use Rattle.plan.proofs.planning.plan_on.Goals as goal
 
-pub returns-in-err-lots : goal.returns-in-err-lots
-returns-in-err-lots g c =
-    let e = err_from_is_err_and c.from-residual.result c.from-residual.ensures.1 in
+pub returns-in_err-lots : goal.returns-in_err-lots
+returns-in_err-lots g c =
+    let e = err_from_is_err_and c.from_residual.result c.from_residual.ensures.1 in
     record {
-      planned = λ work enough. rw (e.1, e.2) (refused _ (c.in-err-lots.ensures work enough) refl refl);
+      planned = λ work enough. rw (e.1, e.2) (refused _ (c.in_err-lots.ensures work enough) refl refl);
       zero = c.drop-page.ensures;
     }
 
-pub slice-bounds-plan-copied-end : goal.slice-bounds-plan-copied-end
-slice-bounds-plan-copied-end g c =
-    let ready = c.in-ok-lots.ensures 4096 (omega arith) in
+pub slice_bounds-plan_copied-end : goal.slice_bounds-plan_copied-end
+slice_bounds-plan_copied-end g c =
+    let ready = c.in_ok-lots.ensures 4096 (omega arith) in
     let few = ready.0.few in
     let lots = ready.1 in
     search rules
 
-pub plan-copied-requires : goal.plan-copied-requires
-plan-copied-requires g c =
-    let ready = c.in-ok-lots.ensures 4096 (omega arith) in
-    let z : c.in-ok-lots.lots - 0 ≡ c.in-ok-lots.lots = omega arith in
-    let taken = ap (λ n. take n c.take-windows.new.windows) z ∙ ready.2 in
+pub plan_copied-requires : goal.plan_copied-requires
+plan_copied-requires g c =
+    let ready = c.in_ok-lots.ensures 4096 (omega arith) in
+    let z : c.in_ok-lots.lots - 0 ≡ c.in_ok-lots.lots = omega arith in
+    let taken = ap (λ n. take n c.take_windows.new.windows) z ∙ ready.2 in
     record {
       lots = ap length taken ∙ sym ready.0.agree.1 ∙ ready.0.agree.0.0;
       few = omega (arith, ap length taken, ready.0.few);
@@ -34,12 +34,12 @@ plan-copied-requires g c =
 
 pub returns : goal.returns
 returns g c =
-    let z : c.in-ok-lots.lots - 0 ≡ c.in-ok-lots.lots = omega arith in
+    let z : c.in_ok-lots.lots - 0 ≡ c.in_ok-lots.lots = omega arith in
     record {
       planned = λ work enough.
-          let ready = c.in-ok-lots.ensures work enough in
-          let taken = ap (λ n. take n c.take-windows.new.windows) z ∙ ready.2 in
-          subst (λ ws. Planned work c.args.slip.now ws c.args.book.now c.args.answer.now c.plan-copied.result c.plan-copied.new.answer) taken
-          (c.plan-copied.ensures work c.args.slip.now (subst (Ready work c.args.slip.now c.args.book.now) (sym taken) ready.0));
+          let ready = c.in_ok-lots.ensures work enough in
+          let taken = ap (λ n. take n c.take_windows.new.windows) z ∙ ready.2 in
+          subst (λ ws. Planned work c.args.slip.now ws c.args.book.now c.args.answer.now c.plan_copied.result c.plan_copied.new.answer) taken
+          (c.plan_copied.ensures work c.args.slip.now (subst (Ready work c.args.slip.now c.args.book.now) (sym taken) ready.0));
       zero = c.drop-page-2.ensures;
     }

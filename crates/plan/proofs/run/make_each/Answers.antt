@@ -12,13 +12,13 @@ loop-call-preserved g c =
     let none = NotBefore 0 0 in
     let before = state (g.S.WindowStore.windows c.args.store.now) c.args.book.now c.args.answer.now c.args.work.now in
     let mid = state (g.S.WindowStore.windows c.loop-call.store) c.loop-call.book c.loop-call.answer c.loop-call.work in
-    let after = state (g.S.WindowStore.windows c.make-call-outcome.new.store) c.make-call-outcome.new.book c.make-call-outcome.new.answer c.make-call-outcome.new.work in
-    let more = runs_more c.args.slip.now (take i calls) before mid after (vec_items c.loop-call.outcomes) (get_or calls i none) c.make-call-outcome.result c.loop-call.invariant.0 c.make-call-outcome.ensures.makes in
-    let listed = subst (λ cs. Runs c.args.slip.now cs before (vec_items c.loop-call.outcomes ++ c.make-call-outcome.result ∷ []) after) (sym (take_more calls i none (omega arith))) more in (
-      subst (λ os. Runs c.args.slip.now (take (i + 1) calls) before os after) (sym c.push-reserved.ensures.items) listed,
-      c.make-call-outcome.ensures.framed ∙ c.loop-call.invariant.1,
-      omega (arith, c.push-reserved.ensures.len, c.loop-call.invariant.2),
-      c.push-reserved.ensures.capacity ∙ c.loop-call.invariant.3,
+    let after = state (g.S.WindowStore.windows c.make_call-outcome.new.store) c.make_call-outcome.new.book c.make_call-outcome.new.answer c.make_call-outcome.new.work in
+    let more = runs_more c.args.slip.now (take i calls) before mid after (vec_items c.loop-call.outcomes) (get_or calls i none) c.make_call-outcome.result c.loop-call.invariant.0 c.make_call-outcome.ensures.makes in
+    let listed = subst (λ cs. Runs c.args.slip.now cs before (vec_items c.loop-call.outcomes ++ c.make_call-outcome.result ∷ []) after) (sym (take_more calls i none (omega arith))) more in (
+      subst (λ os. Runs c.args.slip.now (take (i + 1) calls) before os after) (sym c.push_reserved.ensures.items) listed,
+      c.make_call-outcome.ensures.framed ∙ c.loop-call.invariant.1,
+      omega (arith, c.push_reserved.ensures.len, c.loop-call.invariant.2),
+      c.push_reserved.ensures.capacity ∙ c.loop-call.invariant.3,
     )
 
 pub returns : goal.returns

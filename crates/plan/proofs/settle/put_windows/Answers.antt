@@ -9,8 +9,8 @@ use Rattle.rules.specs.Firm.{Narrower}
 use Rattle.plan.proofs.Putting.{put_at, put_more}
 use Rattle.plan.proofs.settle.put_windows.Goals as goal
 
-pub put-window-requires : goal.put-window-requires
-put-window-requires g c =
+pub put_window-requires : goal.put_window-requires
+put_window-requires g c =
     let new = c.args.windows.now in
     let old = g.S.WindowStore.windows c.args.store.now in
     let i = c.loop-lot.lot in
@@ -29,9 +29,9 @@ loop-lot-preserved g c =
     let i = c.loop-lot.lot in
     let long = length_all_zip Narrower new old c.requires.inside in
     let at = put_at new old i long (omega arith) in (
-      c.put-window.ensures.moved ∙ ap (λ ws. set ws i (window_at new i)) c.loop-lot.invariant.0 ∙ put_more new old i long (omega arith),
-      (λ e. c.put-window.ensures.still (ap (λ ws. window_at ws i) e ∙ sym (ap (λ ws. window_at ws i) c.loop-lot.invariant.0 ∙ at)) ∙ c.loop-lot.invariant.1 e),
-      c.put-window.ensures.framed ∙ c.loop-lot.invariant.2,
+      c.put_window.ensures.moved ∙ ap (λ ws. set ws i (window_at new i)) c.loop-lot.invariant.0 ∙ put_more new old i long (omega arith),
+      (λ e. c.put_window.ensures.still (ap (λ ws. window_at ws i) e ∙ sym (ap (λ ws. window_at ws i) c.loop-lot.invariant.0 ∙ at)) ∙ c.loop-lot.invariant.1 e),
+      c.put_window.ensures.framed ∙ c.loop-lot.invariant.2,
     )
 
 pub returns : goal.returns

@@ -19,9 +19,9 @@ returns-then-work-lt-WORDS g c =
 pub returns : goal.returns
 returns g c =
     record {
-      settles = c.settle-on.ensures.settles (length c.args.work.now) (omega arith);
-      exactly = settles_exactly _ _ _ _ _ _ _ (c.settle-on.ensures.settles (length c.args.work.now) (omega arith));
-      still = c.settle-on.ensures.still;
-      framed = c.settle-on.ensures.framed;
-      cleared = page_cleared c.args.work.now c.settle-on.new.page (omega arith) (search (rules, places)) c.settle-on.ensures.zero;
+      settles = c.settle_on.ensures.settles (length c.args.work.now) (omega arith);
+      exactly = settles_exactly _ _ _ _ _ _ _ (c.settle_on.ensures.settles (length c.args.work.now) (omega arith));
+      still = c.settle_on.ensures.still;
+      framed = c.settle_on.ensures.framed;
+      cleared = page_cleared c.args.work.now c.settle_on.new.page (omega arith) (search (rules, places)) c.settle_on.ensures.zero;
     }

@@ -10,20 +10,20 @@ loop-end-init c =
     let book = c.args.book.now in
     (omega arith, cut_end _ _ (rules_end book _ c.requires.lots), earliest_end _ _ _ c.requires.each (rules_some book))
 
-pub returns-then-not-plan-part : goal.returns-then-not-plan-part
-returns-then-not-plan-part c =
+pub returns-then-not-plan_part : goal.returns-then-not-plan_part
+returns-then-not-plan_part c =
     record {
       found = λ e. absurd (false≢true e);
-      none = λ _. no_plan_part _ _ c.group-start-start.result c.loop-end.end (omega (arith, c.group-start-start.ensures.before)) c.loop-end.invariant.0 (c.plan-part.ensures.none c.if-not-plan-part.true);
+      none = λ _. no_plan_part _ _ c.group_start-start.result c.loop-end.end (omega (arith, c.group_start-start.ensures.before)) c.loop-end.invariant.0 (c.plan_part.ensures.none c.if-not-plan_part.true);
     }
 
 pub loop-end-preserved : goal.loop-end-preserved
 loop-end-preserved c =
-    let start = c.group-start-start.result in
-    let l : start ≤ c.loop-end.end = omega (arith, c.group-start-start.ensures.before) in (
+    let start = c.group_start-start.result in
+    let l : start ≤ c.loop-end.end = omega (arith, c.group_start-start.ensures.before) in (
       omega (arith, c.loop-end.invariant.0),
-      c.group-start-start.ensures.cut,
-      earliest_more _ _ c.plan-part.new.days c.loop-end.days start c.loop-end.end l c.loop-end.invariant.0 c.loop-end.invariant.1 c.plan-part.ensures.rest (c.plan-part.ensures.found c.if-not-plan-part.false) c.loop-end.invariant.2,
+      c.group_start-start.ensures.cut,
+      earliest_more _ _ c.plan_part.new.days c.loop-end.days start c.loop-end.end l c.loop-end.invariant.0 c.loop-end.invariant.1 c.plan_part.ensures.rest (c.plan_part.ensures.found c.if-not-plan_part.false) c.loop-end.invariant.2,
     )
 
 pub returns : goal.returns

@@ -7,8 +7,8 @@ use Rattle.nvalue.specs.Choices.{part}
 use Rattle.rules.specs.Plans.{Earliest, NoPlan}
 use Rattle.search.proofs.groups.plan_part.Goals as goal
 
-pub plan-group-requires : goal.plan-group-requires
-plan-group-requires c =
+pub plan_group-requires : goal.plan_group-requires
+plan_group-requires c =
     let ws = c.args.windows.now in
     let a = c.args.start in
     let b = c.args.end in
@@ -27,11 +27,11 @@ returns c =
     let ds = c.args.days.now in
     let a = c.args.start in
     let b = c.args.end in
-    let m : length c.plan-group.new.days ≡ b - a = c.plan-group.auto.days ∙ length-between ds a b (omega (arith, c.requires.there, c.requires.each)) in
-    let here = between-put_mid a (b - a) ds c.plan-group.new.days b (omega (arith, c.requires.ordered, c.requires.there, c.requires.each)) m in
+    let m : length c.plan_group.new.days ≡ b - a = c.plan_group.auto.days ∙ length-between ds a b (omega (arith, c.requires.there, c.requires.each)) in
+    let here = between-put_mid a (b - a) ds c.plan_group.new.days b (omega (arith, c.requires.ordered, c.requires.there, c.requires.each)) m in
     record {
       found = λ e.
-          subst (Earliest (part ws a (b - a)) _) (sym here) (subst (λ rs. Earliest (part ws a (b - a)) rs c.plan-group.new.days) c.cut-rules.ensures.rules (c.plan-group.ensures.found e));
-      none = λ e. subst (λ rs. NoPlan (part ws a (b - a)) rs) c.cut-rules.ensures.rules (c.plan-group.ensures.none e);
-      rest = drop-put_mid a (b - a) ds c.plan-group.new.days b (omega (arith, c.requires.ordered)) (omega (arith, c.requires.ordered, c.requires.there, c.requires.each)) m;
+          subst (Earliest (part ws a (b - a)) _) (sym here) (subst (λ rs. Earliest (part ws a (b - a)) rs c.plan_group.new.days) c.cut-rules.ensures.rules (c.plan_group.ensures.found e));
+      none = λ e. subst (λ rs. NoPlan (part ws a (b - a)) rs) c.cut-rules.ensures.rules (c.plan_group.ensures.none e);
+      rest = drop-put_mid a (b - a) ds c.plan_group.new.days b (omega (arith, c.requires.ordered)) (omega (arith, c.requires.ordered, c.requires.there, c.requires.each)) m;
     }

@@ -35,21 +35,21 @@ pub hunt-returns-else-narrow : goal.hunt-returns-else-narrow
 hunt-returns-else-narrow t c =
     record { found = λ e. absurd (both_ways _ c.if-narrow.false e); none = λ e. no_firm_no_plan_lem _ _ (c.narrow.ensures.none e) }
 
-pub pick-returns-then-lows-keep : goal.pick-returns-then-lows-keep
-pick-returns-then-lows-keep t c =
-    record { found = λ _. earliest_lows _ _ c.requires.firm.days (c.lows-keep.ensures.0 c.if-lows-keep.true); none = λ e. absurd (true≢false e) }
+pub pick-returns-then-lows_keep : goal.pick-returns-then-lows_keep
+pick-returns-then-lows_keep t c =
+    record { found = λ _. earliest_lows _ _ c.requires.firm.days (c.lows_keep.ensures.0 c.if-lows_keep.true); none = λ e. absurd (true≢false e) }
 
 pub pick-returns-in-None : goal.pick-returns-in-None
 pick-returns-in-None t c =
-    record { found = λ e. absurd (false≢true e); none = λ _. single_none _ _ c.in-None.ensures (not_from_Decides _ c.lows-keep.ensures c.if-lows-keep.false) }
+    record { found = λ e. absurd (false≢true e); none = λ _. single_none _ _ c.in-None.ensures (not_from_Decides _ c.lows_keep.ensures c.if-lows_keep.false) }
 
-pub try-low-hunt-requires : goal.try-low-hunt-requires
-try-low-hunt-requires t c =
+pub try_low-hunt-requires : goal.try_low-hunt-requires
+try_low-hunt-requires t c =
     let ws = c.args.windows.now in
     let lot = c.args.lot in
     let rules = rules_of c.args.counts.now in
     let day = (window_at ws lot).low in
-    let e : c.copy-fixed.new.trial ≡ fixed ws lot = c.copy-fixed.ensures in
+    let e : c.copy_fixed.new.trial ≡ fixed ws lot = c.copy_fixed.ensures in
     let n = ap length e ∙ length-set ws lot (window day day) in
     let w = ap width e in
     let s = All-get_or Sound ws lot (window 0 0) c.requires.there c.requires.sound in
@@ -62,23 +62,23 @@ try-low-hunt-requires t c =
           (
             subst (All Sound) (sym e) sound,
             (
-              omega (arith, c.due-over.auto.due, c.requires.flags),
-              λ k h d. subst (λ vs. FirmRule vs (rule_at rules k)) (sym e) (firm_other ws lot (window day day) (rule_at rules k) (c.due-over.ensures k h d) (All-get_or (FirmRule ws) rules k (row 0 0 0 0) h c.requires.firm.each)),
+              omega (arith, c.due_over.auto.due, c.requires.flags),
+              λ k h d. subst (λ vs. FirmRule vs (rule_at rules k)) (sym e) (firm_other ws lot (window day day) (rule_at rules k) (c.due_over.ensures k h d) (All-get_or (FirmRule ws) rules k (row 0 0 0 0) h c.requires.firm.each)),
             ),
           ),
         ),
       ),
     )
 
-pub try-days-loop-windows-init : goal.try-days-loop-windows-init
-try-days-loop-windows-init t c = trying_none _ _ _ _ c.requires.sound c.requires.firm c.requires.first
+pub try_days-loop-windows-init : goal.try_days-loop-windows-init
+try_days-loop-windows-init t c = trying_none _ _ _ _ c.requires.sound c.requires.firm c.requires.first
 
-pub try-days-loop-windows-preserved : goal.try-days-loop-windows-preserved
-try-days-loop-windows-preserved t c =
+pub try_days-loop-windows-preserved : goal.try_days-loop-windows-preserved
+try_days-loop-windows-preserved t c =
     let rules = rules_of c.loop-windows.counts in
-    let r = subst (λ vs. Raised vs rules c.go-on.new.windows (rules_of c.go-on.new.counts)) (c.try-low.ensures.stay c.loop-windows-test.true) (c.go-on.ensures.raised c.if-not-go-on.false) in
-    trying_more _ _ _ _ c.requires.first _ rules _ c.loop-windows.invariant _ _ _ c.go-on.ensures.lots r
+    let r = subst (λ vs. Raised vs rules c.go_on.new.windows (rules_of c.go_on.new.counts)) (c.try_low.ensures.stay c.loop-windows-test.true) (c.go_on.ensures.raised c.if-not-go_on.false) in
+    trying_more _ _ _ _ c.requires.first _ rules _ c.loop-windows.invariant _ _ _ c.go_on.ensures.lots r
 
-pub try-days-returns : goal.try-days-returns
-try-days-returns t c =
-    record { found = λ _. trying_found _ _ _ _ c.requires.first _ _ _ c.loop-windows.invariant _ (c.try-low.ensures.found c.loop-windows-test.false); none = λ e. absurd (true≢false e) }
+pub try_days-returns : goal.try_days-returns
+try_days-returns t c =
+    record { found = λ _. trying_found _ _ _ _ c.requires.first _ _ _ c.loop-windows.invariant _ (c.try_low.ensures.found c.loop-windows-test.false); none = λ e. absurd (true≢false e) }

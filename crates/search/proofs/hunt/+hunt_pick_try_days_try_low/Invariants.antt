@@ -10,15 +10,15 @@ decreases-hunt l = 4 * width l.windows.now + 3
 abbrev pub decreases-pick : goal.decreases-pick
 decreases-pick l = 4 * width l.windows.now + 2
 
-abbrev pub decreases-try-days : goal.decreases-try-days
-decreases-try-days l = 4 * width l.windows.now + 1
+abbrev pub decreases-try_days : goal.decreases-try_days
+decreases-try_days l = 4 * width l.windows.now + 1
 
 -- a call of it fixes the lot first
-abbrev pub decreases-try-low : goal.decreases-try-low
-decreases-try-low l = 4 * width (fixed l.windows.now l.lot) + 4
+abbrev pub decreases-try_low : goal.decreases-try_low
+decreases-try_low l = 4 * width (fixed l.windows.now l.lot) + 4
 
-abbrev pub invariant-try-days-loop-windows : goal.invariant-try-days-loop-windows
-invariant-try-days-loop-windows l = Trying l.initial.windows (rules_of l.initial.counts) (lots_of l.initial.counts) l.lot l.windows (rules_of l.counts) (lots_of l.counts)
+abbrev pub invariant-try_days-loop-windows : goal.invariant-try_days-loop-windows
+invariant-try_days-loop-windows l = Trying l.initial.windows (rules_of l.initial.counts) (lots_of l.initial.counts) l.lot l.windows (rules_of l.counts) (lots_of l.counts)
 
-abbrev pub decreases-try-days-loop-windows : goal.decreases-try-days-loop-windows
-decreases-try-days-loop-windows l = width l.windows
+abbrev pub decreases-try_days-loop-windows : goal.decreases-try_days-loop-windows
+decreases-try_days-loop-windows l = width l.windows

@@ -19,7 +19,7 @@ returns-then-next-windows c =
     record {
       lots = refl;
       raised = λ e. absurd (false≢true e);
-      none = λ _. past_last ws rules lot c.requires.there c.next-day-next.result c.if-next-windows.true (skipped ws rules lot _ c.requires.there c.next-day-next.ensures c.requires.failed);
+      none = λ _. past_last ws rules lot c.requires.there c.next_day-next.result c.if-next-windows.true (skipped ws rules lot _ c.requires.there c.next_day-next.ensures c.requires.failed);
     }
 
 pub narrow-requires : goal.narrow-requires
@@ -27,15 +27,15 @@ narrow-requires c =
     let ws = c.args.windows.now in
     let rules = rules_of c.args.counts.now in
     let lot = c.args.lot in
-    let w = window c.next-day-next.result (window_at ws lot).high in
+    let w = window c.next_day-next.result (window_at ws lot).high in
     let n = length-set ws lot w in
     let s = All-get_or Sound ws lot (window 0 0) c.requires.there c.requires.sound in
     record {
       lots = n ∙ c.requires.lots;
       few = omega (arith, n, c.requires.few);
       sound = All-set Sound ws lot w (c.if-next-windows.false, s.1) c.requires.sound;
-      flags = omega (arith, c.due-over.auto.due, c.requires.flags);
-      clean = λ k h e. firm_other ws lot w (rule_at rules k) (c.due-over.ensures k h e) (All-get_or (FirmRule ws) rules k (row 0 0 0 0) h c.requires.firm.each);
+      flags = omega (arith, c.due_over.auto.due, c.requires.flags);
+      clean = λ k h e. firm_other ws lot w (rule_at rules k) (c.due_over.ensures k h e) (All-get_or (FirmRule ws) rules k (row 0 0 0 0) h c.requires.firm.each);
     }
 
 pub returns : goal.returns
@@ -43,10 +43,10 @@ returns c =
     let ws = c.args.windows.now in
     let rules = rules_of c.args.counts.now in
     let lot = c.args.lot in
-    let next = c.next-day-next.result in
-    let after = skipped ws rules lot next c.requires.there c.next-day-next.ensures c.requires.failed in
+    let next = c.next_day-next.result in
+    let after = skipped ws rules lot next c.requires.there c.next_day-next.ensures c.requires.failed in
     record {
       lots = c.narrow.ensures.lots;
-      raised = λ e. raised ws rules lot next c.requires.there c.next-day-next.ensures.later c.if-next-windows.false after _ _ (c.narrow.ensures.firm e) (c.narrow.ensures.sound e);
-      none = λ e. raised_none ws rules lot next c.requires.there c.next-day-next.ensures.later c.if-next-windows.false after (c.narrow.ensures.none e);
+      raised = λ e. raised ws rules lot next c.requires.there c.next_day-next.ensures.later c.if-next-windows.false after _ _ (c.narrow.ensures.firm e) (c.narrow.ensures.sound e);
+      none = λ e. raised_none ws rules lot next c.requires.there c.next_day-next.ensures.later c.if-next-windows.false after (c.narrow.ensures.none e);
     }

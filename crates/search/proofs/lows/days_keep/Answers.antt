@@ -32,7 +32,7 @@ loop-number-preserved c =
     elim c.match-rule.branch [
       | in-Some+else-not-keeps w ↦
           All-more (Keeps ds) rules n (row 0 0 0 0) h c.loop-number.invariant (subst (Keeps ds) w.in-Some.ensures.1 (w.keeps.ensures.0 w.if-not-keeps.false))
-      | in-default w ↦ absurd (omega (arith, w.in-default.ensures))
+      | in_default w ↦ absurd (omega (arith, w.in_default.ensures))
     ]
 
 pub returns : goal.returns

@@ -3,11 +3,11 @@ use Rattle.std.proofs.lemmas.Result.{err_from_is_err_and}
 use Rattle.sheet.specs.Asks.{asked, told}
 use Rattle.sheet.proofs.asks.not_after.Goals as goal
 
-pub returns-in-err-lower : goal.returns-in-err-lower
-returns-in-err-lower g c =
-    let p = err_from_is_err_and c.from-residual-in-err-lower.result c.from-residual-in-err-lower.ensures.1 in
+pub returns-in_err-lower : goal.returns-in_err-lower
+returns-in_err-lower g c =
+    let p = err_from_is_err_and c.from_residual-in_err-lower.result c.from_residual-in_err-lower.ensures.1 in
     record {
-      asks = asked c.lower.result c.in-ok-all-agree.ensures (omega arith) c.lower.ensures.lowers (p.1 ∙ ap Err p.2 ∙ sym (ap told c.in-err-lower.was));
+      asks = asked c.lower.result c.in_ok-all_agree.ensures (omega arith) c.lower.ensures.lowers (p.1 ∙ ap Err p.2 ∙ sym (ap told c.in_err-lower.was));
       still = c.lower.ensures.still;
       moved = c.lower.ensures.moved;
       framed = c.lower.ensures.framed;
@@ -16,7 +16,7 @@ returns-in-err-lower g c =
 pub returns : goal.returns
 returns g c =
     record {
-      asks = asked c.lower.result c.in-ok-all-agree.ensures (omega arith) c.lower.ensures.lowers (sym (ap told c.in-ok-lower.was));
+      asks = asked c.lower.result c.in_ok-all_agree.ensures (omega arith) c.lower.ensures.lowers (sym (ap told c.in_ok-lower.was));
       still = c.lower.ensures.still;
       moved = c.lower.ensures.moved;
       framed = c.lower.ensures.framed;

@@ -7,11 +7,11 @@ use Rattle.store.specs.Sound.{Sound}
 use Rattle.extremes.proofs.Mirrored.{sound_mirrored}
 use Rattle.tight.proofs.fewest_hull.fewest_hull.Goals as goal
 
-pub points-of-image-count-requires : goal.points-of-image-count-requires
-points-of-image-count-requires c =
+pub points_of-image_count-requires : goal.points_of-image_count-requires
+points_of-image_count-requires c =
     let ws = c.args.windows.now in
-    let e = c.mirror-windows.ensures in
-    let long : length c.mirror-windows.new.image ≡ length ws = ap length e ∙ length-map ws mirrored in
+    let e = c.mirror_windows.ensures in
+    let long : length c.mirror_windows.new.image ≡ length ws = ap length e ∙ length-map ws mirrored in
     record {
       sound = subst (All Sound) (sym e) (sound_mirrored ws c.requires.sound);
       few = omega (arith, c.requires.few);

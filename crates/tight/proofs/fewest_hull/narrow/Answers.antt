@@ -5,17 +5,17 @@ use Rattle.extremes.proofs.Mirrored.{sound_mirrored}
 use Rattle.tight.proofs.Rungs.{image_reached, narrow_more, narrowed_hull, points_ascend, points_reached, points_same}
 use Rattle.tight.proofs.fewest_hull.narrow.Goals as goal
 
-pub first-used-last-requires : goal.first-used-last-requires
-first-used-last-requires c =
+pub first_used-last-requires : goal.first_used-last-requires
+first_used-last-requires c =
     let ws = c.args.windows.now in
     record {
       ascending = points_ascend _ _ (sound_mirrored ws c.requires.sound) c.requires.image;
-      reached = subst (λ d. Reached d c.args.image-points.now) (sym c.flip-day.ensures) (image_reached ws _ c.requires.sound c.requires.image c.loop-i.i c.loop-i-test.true);
+      reached = subst (λ d. Reached d c.args.image_points.now) (sym c.flip_day.ensures) (image_reached ws _ c.requires.sound c.requires.image c.loop-i.i c.loop-i-test.true);
       each = sym (points_same ws _ _ c.requires.sound c.requires.points c.requires.image);
     }
 
-pub first-used-requires : goal.first-used-requires
-first-used-requires c =
+pub first_used-requires : goal.first_used-requires
+first_used-requires c =
     let ws = c.args.windows.now in
     record {
       ascending = points_ascend ws _ c.requires.sound c.requires.points;
@@ -28,10 +28,10 @@ loop-i-preserved c =
     let ws = c.args.windows.now in
     narrow_more ws c.loop-i.hull _ _ c.loop-i.i _ (omega (arith, c.requires.each)) c.loop-i.invariant
     (record {
-      low = c.first-used.ensures;
-      last = c.first-used-last.result;
-      high = subst (λ d. FirstUsed d c.args.image-points.now c.args.points.now c.first-used-last.result) c.flip-day.ensures c.first-used-last.ensures;
-      high_is = c.flip-day-in-loop-i.ensures;
+      low = c.first_used.ensures;
+      last = c.first_used-last.result;
+      high = subst (λ d. FirstUsed d c.args.image_points.now c.args.points.now c.first_used-last.result) c.flip_day.ensures c.first_used-last.ensures;
+      high_is = c.flip_day-in-loop-i.ensures;
     })
 
 pub returns : goal.returns

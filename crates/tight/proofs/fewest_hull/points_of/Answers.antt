@@ -5,24 +5,24 @@ use Rattle.std.proofs.lemmas.List.{length-append, length-map, places, take_at}
 use Rattle.extremes.specs.Points.{lasts, Points}
 use Rattle.tight.proofs.fewest_hull.points_of.Goals as goal
 
-pub last-days-requires : goal.last-days-requires
-last-days-requires c =
-    let m = c.fewest-of-count.result in
+pub last_days-requires : goal.last_days-requires
+last_days-requires c =
+    let m = c.fewest_of-count.result in
     let z : m - 0 ≡ m = omega arith in
     record {
-      there = subst (λ k. All (λ lot. lot < length c.args.windows.now) (take k c.fewest-of-count.new.lots)) (sym z) c.fewest-of-count.ensures.shown.there;
+      there = subst (λ k. All (λ lot. lot < length c.args.windows.now) (take k c.fewest_of-count.new.lots)) (sym z) c.fewest_of-count.ensures.shown.there;
       each = search (rules, places);
     }
 
 pub returns : goal.returns
 returns c =
-    let m = c.fewest-of-count.result in
+    let m = c.fewest_of-count.result in
     let ws = c.args.windows.now in
-    let days = c.last-days.new.days in
+    let days = c.last_days.new.days in
     let z : m - 0 ≡ m = omega arith in
-    let are : days ≡ lasts ws (take m c.fewest-of-count.new.lots) = c.last-days.ensures ∙ ap (λ k. lasts ws (take k c.fewest-of-count.new.lots)) z in
-    let many : length days ≡ m = ap length are ∙ length-map _ _ ∙ c.fewest-of-count.ensures.shown.many in
+    let are : days ≡ lasts ws (take m c.fewest_of-count.new.lots) = c.last_days.ensures ∙ ap (λ k. lasts ws (take k c.fewest_of-count.new.lots)) z in
+    let many : length days ≡ m = ap length are ∙ length-map _ _ ∙ c.fewest_of-count.ensures.shown.many in
     record {
-      points = subst (Points ws) (sym (take_at days _ m many ∙ are)) c.fewest-of-count.ensures.points;
+      points = subst (Points ws) (sym (take_at days _ m many ∙ are)) c.fewest_of-count.ensures.points;
       few = simp length-append (omega arith);
     }

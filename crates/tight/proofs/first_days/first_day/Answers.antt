@@ -11,8 +11,8 @@ use Rattle.tight.proofs.first_days.first_day.Goals.{in-Some, in-None}
 pub bounds-left-lot : goal.bounds-left-lot
 bounds-left-lot c = omega (arith, choice_length c.args.windows.now c.args.left.now c.requires.left.choice)
 
-pub overflow-sub-width : goal.overflow-sub-width
-overflow-sub-width c = (choice_get_or c.args.windows.now c.args.left.now c.requires.left.choice c.args.lot c.requires.there).0
+pub overflow_sub-width : goal.overflow_sub-width
+overflow_sub-width c = (choice_get_or c.args.windows.now c.args.left.now c.requires.left.choice c.args.lot c.requires.there).0
 
 pub loop-first-init : goal.loop-first-init
 loop-first-init c =
@@ -29,19 +29,19 @@ loop-first-init c =
       reached = (c.args.left.now, best.choice, best.most, refl);
     }
 
-pub can-move-requires : goal.can-move-requires
-can-move-requires c = omega (arith, choice_length c.args.windows.now c.args.left.now c.requires.left.choice)
+pub can_move-requires : goal.can_move-requires
+can_move-requires c = omega (arith, choice_length c.args.windows.now c.args.left.now c.requires.left.choice)
 
-pub can-move-requires-then-not-can-move : goal.can-move-requires-then-not-can-move
-can-move-requires-then-not-can-move c = omega (arith, choice_length c.args.windows.now c.args.right.now c.requires.right.choice)
+pub can_move-requires-then-not-can_move : goal.can_move-requires-then-not-can_move
+can_move-requires-then-not-can_move c = omega (arith, choice_length c.args.windows.now c.args.right.now c.requires.right.choice)
 
-pub overflow-add-end : goal.overflow-add-end
-overflow-add-end c =
+pub overflow_add-end : goal.overflow_add-end
+overflow_add-end c =
     let sound = All-get_or Sound c.args.windows.now c.args.lot (window 0 0) c.requires.there c.requires.sound in
     omega (arith, c.loop-first.invariant.fits c.loop-first-test.true, sound.1)
 
-pub best-before-requires : goal.best-before-requires
-best-before-requires c =
+pub best_before-requires : goal.best_before-requires
+best_before-requires c =
     let inv = c.loop-first.invariant in
     record {
       sound = c.requires.sound;
@@ -58,15 +58,15 @@ loop-first-preserved c =
     let ws = c.args.windows.now in
     let lot = c.args.lot in
     let inv = c.loop-first.invariant in
-    elim c.match-best-before.branch [
+    elim c.match-best_before.branch [
       | in-Some w ↦ halved ws lot c.requires.there _ _ (omega (arith, w.first-is)) (rw w.first-is inv.before) (rw w.last-is w.in-Some.ensures.reached)
       | in-None w ↦ halved ws lot c.requires.there _ _ (omega (arith, w.first-is))
           (λ ds d most. omega (arith, w.first-is, w.in-None.ensures ds d most (inv.before ds d most))) (rw w.last-is inv.reached)
     ]
 
-pub returns-else-not-can-move-2 : goal.returns-else-not-can-move-2
-returns-else-not-can-move-2 c =
-    first_moved _ _ c.requires.there c.args.right.now _ _ _ c.requires.right c.loop-first.invariant (c.can-move-then-not-can-move.ensures c.if-not-can-move-2.false)
+pub returns-else-not-can_move-2 : goal.returns-else-not-can_move-2
+returns-else-not-can_move-2 c =
+    first_moved _ _ c.requires.there c.args.right.now _ _ _ c.requires.right c.loop-first.invariant (c.can_move-then-not-can_move.ensures c.if-not-can_move-2.false)
 
-pub returns-else-not-can-move : goal.returns-else-not-can-move
-returns-else-not-can-move c = first_moved _ _ c.requires.there c.args.left.now _ _ _ c.requires.left c.loop-first.invariant (c.can-move.ensures c.if-not-can-move.false)
+pub returns-else-not-can_move : goal.returns-else-not-can_move
+returns-else-not-can_move c = first_moved _ _ c.requires.there c.args.left.now _ _ _ c.requires.left c.loop-first.invariant (c.can_move.ensures c.if-not-can_move.false)

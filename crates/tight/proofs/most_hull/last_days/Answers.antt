@@ -7,16 +7,16 @@ use Rattle.tight.proofs.Firsts.{last_days_lem}
 use Rattle.extremes.proofs.Mirrored.{sound_mirrored}
 use Rattle.tight.proofs.most_hull.last_days.Goals as goal
 
-pub first-days-requires : goal.first-days-requires
-first-days-requires c = record {
-  sound = subst (All Sound) (sym c.mirror-windows.ensures) (sound_mirrored c.args.windows.now c.requires.sound);
-  few = omega (arith, c.requires.few, c.mirror-windows.auto.image);
-  each = omega (arith, c.requires.each, c.mirror-windows.auto.image);
+pub first_days-requires : goal.first_days-requires
+first_days-requires c = record {
+  sound = subst (All Sound) (sym c.mirror_windows.ensures) (sound_mirrored c.args.windows.now c.requires.sound);
+  few = omega (arith, c.requires.few, c.mirror_windows.auto.image);
+  each = omega (arith, c.requires.each, c.mirror_windows.auto.image);
 }
 
 pub returns : goal.returns
 returns c =
     let ws = c.args.windows.now in
-    let firsts = c.first-days.new.firsts in
-    subst (LastDays ws) (sym c.mirror-days.ensures)
-    (last_days_lem ws c.requires.sound firsts (subst (λ vs. FirstDays vs firsts) c.mirror-windows.ensures c.first-days.ensures))
+    let firsts = c.first_days.new.firsts in
+    subst (LastDays ws) (sym c.mirror_days.ensures)
+    (last_days_lem ws c.requires.sound firsts (subst (λ vs. FirstDays vs firsts) c.mirror_windows.ensures c.first_days.ensures))

@@ -8,11 +8,11 @@ returns-then-least-most c =
 
 pub returns-then-ceiling-least : goal.returns-then-ceiling-least
 returns-then-ceiling-least c =
-    at_ceiling _ c.args.least c.args.most _ _ c.requires.least c.requires.most c.requires.ordered c.if-ceiling-least.true _ c.narrow-to-fewest.ensures
+    at_ceiling _ c.args.least c.args.most _ _ c.requires.least c.requires.most c.requires.ordered c.if-ceiling-least.true _ c.narrow_to_fewest.ensures
 
 pub returns-then-floor-most : goal.returns-then-floor-most
 returns-then-floor-most c =
-    at_floor _ c.args.least c.args.most _ _ c.requires.least c.requires.most c.requires.ordered c.if-floor-most.true _ c.narrow-to-most.ensures
+    at_floor _ c.args.least c.args.most _ _ c.requires.least c.requires.most c.requires.ordered c.if-floor-most.true _ c.narrow_to_most.ensures
 
 pub returns-else-floor-most : goal.returns-else-floor-most
 returns-else-floor-most c =

@@ -8,19 +8,19 @@ use Rattle.bottom.proofs.words.WordStoreWindowStore.lower.Goals as goal
 moving : (c : goal.In-Moves) → Falls (paired c.args.self.now.words.now) c.args.place c.args.day
 moving c =
     falls _ _ _ _ _ _ c.low.ensures.value c.high.ensures.value c.lowering.ensures
-    (c.in-ok-lowering.was ∙ ap Ok c.in-Moves.is)
+    (c.in_ok-lowering.was ∙ ap Ok c.in-Moves.is)
 
 inside : (c : goal.In-Moves) → 2 * c.args.place + 1 < length c.args.self.now.words.now
 inside c = omega (arith, (moving c).there, paired_length c.args.self.now.words.now)
 
-pub overflow-mul-self : goal.overflow-mul-self
-overflow-mul-self c = let i = inside c in search rules
+pub overflow_mul-self : goal.overflow_mul-self
+overflow_mul-self c = let i = inside c in search rules
 
-pub overflow-add-self : goal.overflow-add-self
-overflow-add-self c = let i = inside c in search rules
+pub overflow_add-self : goal.overflow_add-self
+overflow_add-self c = let i = inside c in search rules
 
-pub offset-bounds-self-place : goal.offset-bounds-self-place
-offset-bounds-self-place c = let i = inside c in search rules
+pub offset_bounds-self-place : goal.offset_bounds-self-place
+offset_bounds-self-place c = let i = inside c in search rules
 
 pub bounds-self-place : goal.bounds-self-place
 bounds-self-place c = let i = inside c in search rules

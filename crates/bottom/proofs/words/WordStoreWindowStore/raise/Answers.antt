@@ -8,16 +8,16 @@ use Rattle.bottom.proofs.words.WordStoreWindowStore.raise.Goals as goal
 moving : (c : goal.In-Moves) → Rises (paired c.args.self.now.words.now) c.args.place c.args.day
 moving c =
     rises _ _ _ _ _ _ c.low.ensures.value c.high.ensures.value c.raising.ensures
-    (c.in-ok-raising.was ∙ ap Ok c.in-Moves.is)
+    (c.in_ok-raising.was ∙ ap Ok c.in-Moves.is)
 
 inside : (c : goal.In-Moves) → 2 * c.args.place + 1 < length c.args.self.now.words.now
 inside c = omega (arith, (moving c).there, paired_length c.args.self.now.words.now)
 
-pub overflow-mul-self : goal.overflow-mul-self
-overflow-mul-self c = let i = inside c in search rules
+pub overflow_mul-self : goal.overflow_mul-self
+overflow_mul-self c = let i = inside c in search rules
 
-pub offset-bounds-self-place : goal.offset-bounds-self-place
-offset-bounds-self-place c = let i = inside c in search rules
+pub offset_bounds-self-place : goal.offset_bounds-self-place
+offset_bounds-self-place c = let i = inside c in search rules
 
 pub bounds-self-place : goal.bounds-self-place
 bounds-self-place c = let i = inside c in search rules

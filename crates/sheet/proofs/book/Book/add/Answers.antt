@@ -4,8 +4,8 @@ use Rattle.sheet.specs.Fits.{Fits}
 use Rattle.sheet.proofs.Books.{kept_more, rules_length}
 use Rattle.sheet.proofs.book.Book.add.Goals as goal
 
-pub invariant-of-self : goal.invariant-of-self
-invariant-of-self c =
+pub invariant_of-self : goal.invariant_of-self
+invariant_of-self c =
     let book = c.args.self.now in
     let free : book.used < 32 = omega (arith, c.requires.room, rules_length book) in (
       length-set book.rows book.used c.args.row ∙ book.room,

@@ -6,8 +6,8 @@ use Rattle.sheet.proofs.Books.{rules_length}
 use Rattle.sheet.proofs.Cutting.{within_length, within_more}
 use Rattle.sheet.proofs.book.Book.copy_rules.Goals as goal
 
-pub copy-rule-requires : goal.copy-rule-requires
-copy-rule-requires c =
+pub copy_rule-requires : goal.copy_rule-requires
+copy_rule-requires c =
     let rules = rules_of c.args.self.now in
     let n = rules_length c.args.self.now in
     let here : c.loop-number.number < length rules = omega arith in
@@ -21,10 +21,10 @@ pub loop-number-preserved : goal.loop-number-preserved
 loop-number-preserved c =
     let rules = rules_of c.args.self.now in
     let n = rules_length c.args.self.now in (
-      c.copy-rule.ensures.rules
+      c.copy_rule.ensures.rules
           ∙ ap (λ rs. rs ++ within c.args.a c.args.b (rule_at rules c.loop-number.number ∷ [])) c.loop-number.invariant.0
           ∙ sym (within_more c.args.a c.args.b rules c.loop-number.number (omega arith)),
-      c.copy-rule.ensures.lots,
+      c.copy_rule.ensures.lots,
     )
 
 pub returns : goal.returns

@@ -5,16 +5,16 @@ use Rattle.calendar.proofs.Calendars.{word_read, period_raise}
 use Rattle.store.proofs.Verdicts.{rises, risen_differs}
 use Rattle.calendar.proofs.period.layer.PeriodWindowStore.raise.Goals as goal
 
-pub overflow-mul-self : goal.overflow-mul-self
-overflow-mul-self g c =
-    let m = rises (map (in_periods c.args.self.now.length.days) (g.S.WindowStore.windows c.args.self.now.below)) c.args.place c.args.period _ _ _ c.low.ensures.value c.high.ensures.value c.raising.ensures (c.in-ok-raising.was ∙ ap Ok c.in-Moves.is) in
+pub overflow_mul-self : goal.overflow_mul-self
+overflow_mul-self g c =
+    let m = rises (map (in_periods c.args.self.now.length.days) (g.S.WindowStore.windows c.args.self.now.below)) c.args.place c.args.period _ _ _ c.low.ensures.value c.high.ensures.value c.raising.ensures (c.in_ok-raising.was ∙ ap Ok c.in-Moves.is) in
     let word = word_read (map (in_periods c.args.self.now.length.days) (g.S.WindowStore.windows c.args.self.now.below)) c.args.place c.args.self.now.length.days _ c.high.ensures.value m.there c.high.ensures.word in
     let least = mul-le-mul_left c.args.self.now.length.days m.within in
     search rules
 
 pub returns-in-Moves : goal.returns-in-Moves
 returns-in-Moves g c =
-    let m = rises (map (in_periods c.args.self.now.length.days) (g.S.WindowStore.windows c.args.self.now.below)) c.args.place c.args.period _ _ _ c.low.ensures.value c.high.ensures.value c.raising.ensures (c.in-ok-raising.was ∙ ap Ok c.in-Moves.is) in
+    let m = rises (map (in_periods c.args.self.now.length.days) (g.S.WindowStore.windows c.args.self.now.below)) c.args.place c.args.period _ _ _ c.low.ensures.value c.high.ensures.value c.raising.ensures (c.in_ok-raising.was ∙ ap Ok c.in-Moves.is) in
     let below = period_raise c.args.self.now.length.days c.args.self.now.length.some (g.S.WindowStore.windows c.args.self.now.below) _ c.args.place c.args.period _ m c.raise.ensures.raises in
     record {
       raises = moves m.there (λ h. omega (arith, m.above)) (λ h. omega (arith, m.within)) below.0 below.1;
