@@ -25,9 +25,9 @@ impl<'a> MaskStore<'a> {
 impl WindowStore for MaskStore<'_> {
     ghost windows = { λ s. map window_of_mask s.masks.now };
 
-    ghost Ground = { List ℕ };
+    ghost Footing = { List ℕ };
 
-    ghost ground = { λ s. s.masks.now };
+    ghost footing = { λ s. s.masks.now };
 
     ghost raised = { λ s place day. slice_set s.masks.now place (filled day (window_of_mask (slice_index s.masks.now place)).high) };
 

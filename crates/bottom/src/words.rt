@@ -24,9 +24,9 @@ impl<'a> WordStore<'a> {
 impl WindowStore for WordStore<'_> {
     ghost windows = { λ s. paired s.words.now };
 
-    ghost Ground = { List ℕ };
+    ghost Footing = { List ℕ };
 
-    ghost ground = { λ s. s.words.now };
+    ghost footing = { λ s. s.words.now };
 
     ghost raised = { λ s place day. slice_set s.words.now (2 * place) day };
 

@@ -34,9 +34,9 @@ impl<S> Dispatch<S> {
 impl<S: WindowStore> WindowStore for Dispatch<S> {
     ghost windows = { λ s. map (window_before_dispatch s.last) (S.WindowStore.windows s.below) };
 
-    ghost Ground = { S.WindowStore.Ground };
+    ghost Footing = { S.WindowStore.Footing };
 
-    ghost ground = { λ s. S.WindowStore.ground s.below };
+    ghost footing = { λ s. S.WindowStore.footing s.below };
 
     // a first day here is a last day below
     ghost raised = { λ s place day. S.WindowStore.lowered s.below place (s.last - day) };

@@ -35,14 +35,14 @@ left_same ws is rules counts M e f m ds =
     (λ p. (to p, m ds (to p)), λ q. from q.0)
 
 -- raising a low end, as the store answers it
-left_raise : (ws is : List Window) (rules : List Row) (lot day : ℕ) (s : Result (Unit {0}) StoreFault) → Raises ws lot day s is → Left ws rules is rules (λ ds. MeetsIf rules ds (call.NotBefore lot day) (Asked (told s)))
-left_raise ws is rules lot day s (no_such_lot n e same) = left_same ws is rules rules _ same refl (λ ds p. subst (λ r. MeetsIf rules ds (call.NotBefore lot day) (Asked (told r))) (sym e) tt)
+left_raise : (ws is : List Window) (rules : List Row) (lot day : ℕ) (s : Result (Unit {0}) StoreFault) → Raises ws lot day s is → Left ws rules is rules (λ ds. MeetsIf rules ds (call.NotBefore lot day) (Asked (told lot s)))
+left_raise ws is rules lot day s (no_such_lot n e same) = left_same ws is rules rules _ same refl (λ ds p. subst (λ r. MeetsIf rules ds (call.NotBefore lot day) (Asked (told lot r))) (sym e) tt)
 left_raise ws is rules lot day s (stays b low e same) =
-    left_same ws is rules rules _ same refl (λ ds p. subst (λ r. MeetsIf rules ds (call.NotBefore lot day) (Asked (told r))) (sym e) (omega (arith, (plan_at ws rules ds lot b p).0)))
-left_raise ws is rules lot day s (would_empty b n h e same) = left_same ws is rules rules _ same refl (λ ds p. subst (λ r. MeetsIf rules ds (call.NotBefore lot day) (Asked (told r))) (sym e) tt)
+    left_same ws is rules rules _ same refl (λ ds p. subst (λ r. MeetsIf rules ds (call.NotBefore lot day) (Asked (told lot r))) (sym e) (omega (arith, (plan_at ws rules ds lot b p).0)))
+left_raise ws is rules lot day s (would_empty b n h e same) = left_same ws is rules rules _ same refl (λ ds p. subst (λ r. MeetsIf rules ds (call.NotBefore lot day) (Asked (told lot r))) (sym e) tt)
 left_raise ws is rules lot day s (moves b up in' e same) =
     let w = window day (window_at ws lot).high in
-    let T : Result (Unit {0}) StoreFault → Type 0 = λ r. Left ws rules is rules (λ ds. MeetsIf rules ds (call.NotBefore lot day) (Asked (told r))) in
+    let T : Result (Unit {0}) StoreFault → Type 0 = λ r. Left ws rules is rules (λ ds. MeetsIf rules ds (call.NotBefore lot day) (Asked (told lot r))) in
     subst T (sym e) (λ ds. (
       λ p.
           let q = subst (λ vs. Plan vs rules ds) same p in
@@ -53,14 +53,14 @@ left_raise ws is rules lot day s (moves b up in' e same) =
     ))
 
 -- lowering a high end
-left_lower : (ws is : List Window) (rules : List Row) (lot day : ℕ) (s : Result (Unit {0}) StoreFault) → Lowers ws lot day s is → Left ws rules is rules (λ ds. MeetsIf rules ds (call.NotAfter lot day) (Asked (told s)))
-left_lower ws is rules lot day s (no_such_lot n e same) = left_same ws is rules rules _ same refl (λ ds p. subst (λ r. MeetsIf rules ds (call.NotAfter lot day) (Asked (told r))) (sym e) tt)
+left_lower : (ws is : List Window) (rules : List Row) (lot day : ℕ) (s : Result (Unit {0}) StoreFault) → Lowers ws lot day s is → Left ws rules is rules (λ ds. MeetsIf rules ds (call.NotAfter lot day) (Asked (told lot s)))
+left_lower ws is rules lot day s (no_such_lot n e same) = left_same ws is rules rules _ same refl (λ ds p. subst (λ r. MeetsIf rules ds (call.NotAfter lot day) (Asked (told lot r))) (sym e) tt)
 left_lower ws is rules lot day s (stays b high e same) =
-    left_same ws is rules rules _ same refl (λ ds p. subst (λ r. MeetsIf rules ds (call.NotAfter lot day) (Asked (told r))) (sym e) (omega (arith, (plan_at ws rules ds lot b p).1)))
-left_lower ws is rules lot day s (would_empty b n h e same) = left_same ws is rules rules _ same refl (λ ds p. subst (λ r. MeetsIf rules ds (call.NotAfter lot day) (Asked (told r))) (sym e) tt)
+    left_same ws is rules rules _ same refl (λ ds p. subst (λ r. MeetsIf rules ds (call.NotAfter lot day) (Asked (told lot r))) (sym e) (omega (arith, (plan_at ws rules ds lot b p).1)))
+left_lower ws is rules lot day s (would_empty b n h e same) = left_same ws is rules rules _ same refl (λ ds p. subst (λ r. MeetsIf rules ds (call.NotAfter lot day) (Asked (told lot r))) (sym e) tt)
 left_lower ws is rules lot day s (moves b down in' e same) =
     let w = window (window_at ws lot).low day in
-    let T : Result (Unit {0}) StoreFault → Type 0 = λ r. Left ws rules is rules (λ ds. MeetsIf rules ds (call.NotAfter lot day) (Asked (told r))) in
+    let T : Result (Unit {0}) StoreFault → Type 0 = λ r. Left ws rules is rules (λ ds. MeetsIf rules ds (call.NotAfter lot day) (Asked (told lot r))) in
     subst T (sym e) (λ ds. (
       λ p.
           let q = subst (λ vs. Plan vs rules ds) same p in
@@ -71,12 +71,12 @@ left_lower ws is rules lot day s (moves b down in' e same) =
     ))
 
 -- an ask for a lot's day
-left_day : {Moves : Result (Unit {0}) StoreFault → List Window → Type 0} (c : Call) (day : ℕ) (slip : Closed) (book : Book) (ws is : List Window) (r : Result (Unit {0}) SheetFault)
-    → ((s : Result (Unit {0}) StoreFault) → Moves s is → Left ws (rules_of book) is (rules_of book) (λ ds. MeetsIf (rules_of book) ds c (Asked (told s))))
-    → asks.AsksDay Moves day slip book ws r is → Left ws (rules_of book) is (rules_of book) (λ ds. MeetsIf (rules_of book) ds c (Asked r))
-left_day c day slip book ws is r moved (asks.AsksDay.mismatch n e same) = left_same ws is (rules_of book) (rules_of book) _ same refl (λ ds p. subst (λ x. MeetsIf (rules_of book) ds c (Asked x)) (sym e) tt)
-left_day c day slip book ws is r moved (asks.AsksDay.no_such_day a n e same) = left_same ws is (rules_of book) (rules_of book) _ same refl (λ ds p. subst (λ x. MeetsIf (rules_of book) ds c (Asked x)) (sym e) tt)
-left_day c day slip book ws is r moved (asks.AsksDay.asked s a n m e) =
+left_day : {Moves : Result (Unit {0}) StoreFault → List Window → Type 0} (c : Call) (lot day : ℕ) (slip : Closed) (book : Book) (ws is : List Window) (r : Result (Unit {0}) SheetFault)
+    → ((s : Result (Unit {0}) StoreFault) → Moves s is → Left ws (rules_of book) is (rules_of book) (λ ds. MeetsIf (rules_of book) ds c (Asked (told lot s))))
+    → asks.AsksDay Moves lot day slip book ws r is → Left ws (rules_of book) is (rules_of book) (λ ds. MeetsIf (rules_of book) ds c (Asked r))
+left_day c lot day slip book ws is r moved (asks.AsksDay.mismatch n e same) = left_same ws is (rules_of book) (rules_of book) _ same refl (λ ds p. subst (λ x. MeetsIf (rules_of book) ds c (Asked x)) (sym e) tt)
+left_day c lot day slip book ws is r moved (asks.AsksDay.no_such_day a n e same) = left_same ws is (rules_of book) (rules_of book) _ same refl (λ ds p. subst (λ x. MeetsIf (rules_of book) ds c (Asked x)) (sym e) tt)
+left_day c lot day slip book ws is r moved (asks.AsksDay.asked s a n m e) =
     let T : Result (Unit {0}) SheetFault → Type 0 = λ x. Left ws (rules_of book) is (rules_of book) (λ ds. MeetsIf (rules_of book) ds c (Asked x)) in
     subst T (sym e) (moved s m)
 
@@ -134,11 +134,11 @@ alike_book s t b = subst (λ book. Alike (rules_of book) (rules_of s.book)) (sym
 pub makes_left : (slip : Closed) (c : Call) (s t : State) (o : Outcome) → Makes slip c s o t → OneLeft c s o t
 makes_left slip (call.NotBefore lot day) s t o (r, e, a, b, _, _) =
     let T : Outcome → Type 0 = λ x. OneLeft (call.NotBefore lot day) s x t in
-    let left = left_day (call.NotBefore lot day) day slip s.book s.windows t.windows r (λ q. left_raise s.windows t.windows (rules_of s.book) lot day q) a in
+    let left = left_day (call.NotBefore lot day) lot day slip s.book s.windows t.windows r (λ q. left_raise s.windows t.windows (rules_of s.book) lot day q) a in
     subst T (sym e) (subst (λ book. Left s.windows (rules_of s.book) t.windows (rules_of book) (λ ds. MeetsIf (rules_of s.book) ds (call.NotBefore lot day) (Asked r))) (sym b) left, alike_book s t b)
 makes_left slip (call.NotAfter lot day) s t o (r, e, a, b, _, _) =
     let T : Outcome → Type 0 = λ x. OneLeft (call.NotAfter lot day) s x t in
-    let left = left_day (call.NotAfter lot day) day slip s.book s.windows t.windows r (λ q. left_lower s.windows t.windows (rules_of s.book) lot day q) a in
+    let left = left_day (call.NotAfter lot day) lot day slip s.book s.windows t.windows r (λ q. left_lower s.windows t.windows (rules_of s.book) lot day q) a in
     subst T (sym e) (subst (λ book. Left s.windows (rules_of s.book) t.windows (rules_of book) (λ ds. MeetsIf (rules_of s.book) ds (call.NotAfter lot day) (Asked r))) (sym b) left, alike_book s t b)
 makes_left slip (call.AtLeast rule number) s t o (r, e, a, w, _, _) =
     let T : Outcome → Type 0 = λ x. OneLeft (call.AtLeast rule number) s x t in

@@ -4,7 +4,7 @@ use bottom::words::WordStore;
 use plan::calls::{Call, Outcome};
 use plan::run::make_calls;
 use sheet::book::Book;
-use sheet::fault::SheetFault;
+use sheet::fault::{SheetFault, StoreRefusal};
 use std::test::Fail;
 use store::fault::StoreFault;
 
@@ -39,7 +39,7 @@ fn refused_calls_change_nothing(rt: HostRuntime) -> Result<(), Fail> {
     assert!(rt; outcomes.len() == 8);
     assert_eq!(rt;
         outcomes[0],
-        Outcome::Asked(Err(SheetFault::Store(StoreFault::WouldEmpty(0))))
+        Outcome::Asked(Err(SheetFault::Store(StoreRefusal { lot: 0, fault: StoreFault::WouldEmpty })))
     );
     assert_eq!(rt; outcomes[1], Outcome::Asked(Err(SheetFault::NoSuchDay)));
     assert_eq!(rt;

@@ -1,3 +1,4 @@
 pub mod Books
 pub mod Cutting
 pub mod Drafts
+pub mod Told

@@ -15,24 +15,24 @@ use Rattle.sheet.specs.Drafts.{Agree}
 abbrev pub AllAgree : Closed → Book → List Window → Type 0
 AllAgree slip book ws = Agree slip.lots slip.rules book × (slip.lots ≡ length ws)
 
--- what a house is told of a store's answer: its refusal comes whole
-abbrev pub told : Result (Unit {0}) StoreFault → Result (Unit {0}) SheetFault
-told (Ok done) = Ok done
-told (Err fault) = Err (Store fault)
+-- what a house is told of a store's answer about a lot: its refusal comes whole, with the lot
+abbrev pub told : ℕ → Result (Unit {0}) StoreFault → Result (Unit {0}) SheetFault
+told lot (Ok done) = Ok done
+told lot (Err fault) = Err (Store (record { lot = lot; fault = fault }))
 
 -- An ask for a lot's day. `Moves s is` says that the store answers s and then shows the windows `is`.
-pub data AsksDay (Moves : Result (Unit {0}) StoreFault → List Window → Type 0) (day : ℕ) (slip : Closed) (book : Book) (was : List Window) (r : Result (Unit {0}) SheetFault) (is : List Window) : Type 0 where
-  mismatch : (AllAgree slip book was → ⊥) → r ≡ Err Mismatch → is ≡ was → AsksDay Moves day slip book was r is
-  no_such_day : AllAgree slip book was → 9999 < day → r ≡ Err NoSuchDay → is ≡ was → AsksDay Moves day slip book was r is
-  asked : (s : Result (Unit {0}) StoreFault) → AllAgree slip book was → day ≤ 9999 → Moves s is → r ≡ told s → AsksDay Moves day slip book was r is
+pub data AsksDay (Moves : Result (Unit {0}) StoreFault → List Window → Type 0) (lot day : ℕ) (slip : Closed) (book : Book) (was : List Window) (r : Result (Unit {0}) SheetFault) (is : List Window) : Type 0 where
+  mismatch : (AllAgree slip book was → ⊥) → r ≡ Err Mismatch → is ≡ was → AsksDay Moves lot day slip book was r is
+  no_such_day : AllAgree slip book was → 9999 < day → r ≡ Err NoSuchDay → is ≡ was → AsksDay Moves lot day slip book was r is
+  asked : (s : Result (Unit {0}) StoreFault) → AllAgree slip book was → day ≤ 9999 → Moves s is → r ≡ told lot s → AsksDay Moves lot day slip book was r is
 
 -- not before: the lot's first day is to be that day or a later one
 abbrev pub NotBefore : ℕ → ℕ → Closed → Book → List Window → Result (Unit {0}) SheetFault → List Window → Type 0
-NotBefore lot day slip book was = AsksDay (Raises was lot day) day slip book was
+NotBefore lot day slip book was = AsksDay (Raises was lot day) lot day slip book was
 
 -- not after: the lot's last day is to be that day or an earlier one
 abbrev pub NotAfter : ℕ → ℕ → Closed → Book → List Window → Result (Unit {0}) SheetFault → List Window → Type 0
-NotAfter lot day slip book was = AsksDay (Lowers was lot day) day slip book was
+NotAfter lot day slip book was = AsksDay (Lowers was lot day) lot day slip book was
 
 -- An ask for a rule's count. `Empties q` says that no count would be left in the rule q, `tightened q` is the rule that it becomes.
 pub data AsksCount (Empties : Row → Type 0) (tightened : Row → Row) (rule : ℕ) (slip : Closed) (was : Book) (r : Result (Unit {0}) SheetFault) (is : Book) : Type 0 where

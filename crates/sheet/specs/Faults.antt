@@ -1,12 +1,22 @@
 -- The number by which a house knows a refusal, and the lot or the rule that it names: 0 where it names none.
-use Rattle.std.specs.Prelude.{ℕ}
+use Rattle.std.specs.Prelude.{ℕ, Ok, Err, Result}
 use Rattle.store.specs.declared.fault.StoreFault.{StoreFault}
 use Rattle.store.specs.declared.fault.StoreFault.TheVariants.{NoSuchLot, WouldEmpty}
 use Rattle.sheet.specs.declared.fault.SheetFault.{SheetFault}
+use Rattle.sheet.specs.declared.fault.StoreRefusal.{StoreRefusal}
 use Rattle.sheet.specs.declared.fault.SheetFault.TheVariants.{Store, NoSuchDay, NoSuchStretch, NoSuchCount, NoSuchRule, ShortWork, ShortAnswer, TooManyLots, FaultyWindow, BookFull, NoCountLeft, NoFirmWindows, NoPlan, Mismatch}
 
+-- what a store answered about a lot: its refusal comes whole, and with the lot
+abbrev pub at_lot : ℕ → Result (Unit {0}) StoreFault → Result (Unit {0}) StoreRefusal
+at_lot lot (Ok done) = Ok done
+at_lot lot (Err fault) = Err (record { lot = lot; fault = fault })
+
+abbrev pub number_of_store : StoreFault → ℕ
+number_of_store NoSuchLot = 1
+number_of_store WouldEmpty = 23
+
 abbrev pub number_of : SheetFault → ℕ
-number_of (Store (NoSuchLot lot)) = 1
+number_of (Store refusal) = number_of_store refusal.fault
 number_of NoSuchDay = 2
 number_of NoSuchStretch = 3
 number_of NoSuchCount = 4
@@ -16,14 +26,13 @@ number_of ShortAnswer = 7
 number_of TooManyLots = 20
 number_of (FaultyWindow lot) = 21
 number_of BookFull = 22
-number_of (Store (WouldEmpty lot)) = 23
 number_of (NoCountLeft rule) = 24
 number_of NoFirmWindows = 25
 number_of NoPlan = 26
 number_of Mismatch = 27
 
 abbrev pub place_of : SheetFault → ℕ
-place_of (Store (NoSuchLot lot)) = lot
+place_of (Store refusal) = refusal.lot
 place_of NoSuchDay = 0
 place_of NoSuchStretch = 0
 place_of NoSuchCount = 0
@@ -33,7 +42,6 @@ place_of ShortAnswer = 0
 place_of TooManyLots = 0
 place_of (FaultyWindow lot) = lot
 place_of BookFull = 0
-place_of (Store (WouldEmpty lot)) = lot
 place_of (NoCountLeft rule) = rule
 place_of NoFirmWindows = 0
 place_of NoPlan = 0

@@ -5,7 +5,7 @@ ghost use Rattle.sheet.specs.Drafts.{Agree};
 ghost use Rattle.sheet.specs.declared.fault.SheetFault.TheVariants.{Mismatch};
 
 use crate::book::Book;
-use crate::fault::SheetFault;
+use crate::fault::{SheetFault, about_lot};
 use crate::slip::Closed;
 use nvalue::count_window::CountWindow;
 use store::store::WindowStore;
@@ -22,14 +22,14 @@ pub fn not_before<S: WindowStore>(
 ) -> Result<(), SheetFault>
     ensures asks { NotBefore lot day slip.now book.now (S.WindowStore.windows store.old) result (S.WindowStore.windows store.new) }
     ensures still { S.WindowStore.windows store.new ≡ S.WindowStore.windows store.old → store.new ≡ store.old }
-    ensures moved { (S.WindowStore.windows store.new ≢ S.WindowStore.windows store.old) → S.WindowStore.ground store.new ≡ S.WindowStore.raised store.old lot day }
+    ensures moved { (S.WindowStore.windows store.new ≢ S.WindowStore.windows store.old) → S.WindowStore.footing store.new ≡ S.WindowStore.raised store.old lot day }
     ensures framed { S.WindowStore.frame store.new ≡ S.WindowStore.frame store.old }
 {
     all_agree(slip, book, store)?;
     if day > LAST_DAY {
         return Err(SheetFault::NoSuchDay);
     }
-    store.raise(lot, day)?;
+    about_lot(lot, store.raise(lot, day))?;
     Ok(())
 }
 
@@ -43,14 +43,14 @@ pub fn not_after<S: WindowStore>(
 ) -> Result<(), SheetFault>
     ensures asks { NotAfter lot day slip.now book.now (S.WindowStore.windows store.old) result (S.WindowStore.windows store.new) }
     ensures still { S.WindowStore.windows store.new ≡ S.WindowStore.windows store.old → store.new ≡ store.old }
-    ensures moved { (S.WindowStore.windows store.new ≢ S.WindowStore.windows store.old) → S.WindowStore.ground store.new ≡ S.WindowStore.lowered store.old lot day }
+    ensures moved { (S.WindowStore.windows store.new ≢ S.WindowStore.windows store.old) → S.WindowStore.footing store.new ≡ S.WindowStore.lowered store.old lot day }
     ensures framed { S.WindowStore.frame store.new ≡ S.WindowStore.frame store.old }
 {
     all_agree(slip, book, store)?;
     if day > LAST_DAY {
         return Err(SheetFault::NoSuchDay);
     }
-    store.lower(lot, day)?;
+    about_lot(lot, store.lower(lot, day))?;
     Ok(())
 }
 

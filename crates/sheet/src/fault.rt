@@ -1,14 +1,21 @@
 // Why a call on a sheet is refused. A refusal changes nothing.
 ghost use Rattle.std.specs.Prelude.{◌≡◌};
-ghost use Rattle.sheet.specs.Faults.{number_of, place_of};
+ghost use Rattle.sheet.specs.Faults.{number_of, number_of_store, place_of, at_lot};
 ghost use Rattle.sheet.specs.declared.fault.SheetFault.TheVariants.{Store};
 
 use store::fault::StoreFault;
 
+// The store's own refusal, whole, with the lot that was named.
+#[derive(Clone, Copy, PartialEq, Eq, Debug)]
+pub struct StoreRefusal {
+    pub lot: usize,
+    pub fault: StoreFault,
+}
+
 #[derive(Clone, Copy, PartialEq, Eq, Debug)]
 pub enum SheetFault {
-    // the store's own refusal, whole: no such lot, or a window that would be empty
-    Store(StoreFault),
+    // the store refuses: no such lot, or a window that would be empty
+    Store(StoreRefusal),
     // a day above 9,999
     NoSuchDay,
     // a length of 0, or a stretch past the last lot
@@ -43,7 +50,7 @@ impl SheetFault {
         ensures { result ≡ number_of self }
     {
         match self {
-            SheetFault::Store(StoreFault::NoSuchLot(_)) => 1,
+            SheetFault::Store(refusal) => store_number(refusal.fault),
             SheetFault::NoSuchDay => 2,
             SheetFault::NoSuchStretch => 3,
             SheetFault::NoSuchCount => 4,
@@ -53,7 +60,6 @@ impl SheetFault {
             SheetFault::TooManyLots => 20,
             SheetFault::FaultyWindow(_) => 21,
             SheetFault::BookFull => 22,
-            SheetFault::Store(StoreFault::WouldEmpty(_)) => 23,
             SheetFault::NoCountLeft(_) => 24,
             SheetFault::NoFirmWindows => 25,
             SheetFault::NoPlan => 26,
@@ -66,8 +72,7 @@ impl SheetFault {
         ensures { result ≡ place_of self }
     {
         match self {
-            SheetFault::Store(StoreFault::NoSuchLot(lot)) => lot,
-            SheetFault::Store(StoreFault::WouldEmpty(lot)) => lot,
+            SheetFault::Store(refusal) => refusal.lot,
             SheetFault::NoSuchRule(rule) => rule,
             SheetFault::FaultyWindow(lot) => lot,
             SheetFault::NoCountLeft(rule) => rule,
@@ -76,10 +81,29 @@ impl SheetFault {
     }
 }
 
-impl From<StoreFault> for SheetFault {
+fn store_number(fault: StoreFault) -> u32
+    ensures { result ≡ number_of_store fault }
+{
+    match fault {
+        StoreFault::NoSuchLot => 1,
+        StoreFault::WouldEmpty => 23,
+    }
+}
+
+// What a store answered about a lot: a refusal names the lot.
+pub fn about_lot(lot: usize, answer: Result<(), StoreFault>) -> Result<(), StoreRefusal>
+    ensures { result ≡ at_lot lot answer }
+{
+    match answer {
+        Ok(()) => Ok(()),
+        Err(fault) => Err(StoreRefusal { lot, fault }),
+    }
+}
+
+impl From<StoreRefusal> for SheetFault {
     ghost from_gives = { λ value r. r ≡ Store value };
 
-    fn from(value: StoreFault) -> SheetFault {
+    fn from(value: StoreRefusal) -> SheetFault {
         SheetFault::Store(value)
     }
 }

@@ -11,13 +11,13 @@ pub trait WindowStore {
     ghost windows: { Self → List Window };
 
     // What the store stands on, in the end some lent memory, and what that holds once the end of a lot's window has moved to a day.
-    ghost Ground: { Type 0 };
+    ghost Footing: { Type 0 };
 
-    ghost ground: { Self → Ground };
+    ghost footing: { Self → Footing };
 
-    ghost raised: { Self → ℕ → ℕ → Ground };
+    ghost raised: { Self → ℕ → ℕ → Footing };
 
-    ghost lowered: { Self → ℕ → ℕ → Ground };
+    ghost lowered: { Self → ℕ → ℕ → Footing };
 
     // What no call changes: which memory was lent, a layer's constant.
     ghost Frame: { Type 0 };
@@ -40,14 +40,14 @@ pub trait WindowStore {
     fn raise(&mut self, place: usize, day: u32) -> Result<(), StoreFault>
         ensures raises { Raises (windows self.old) place day result (windows self.new) }
         ensures still { windows self.new ≡ windows self.old → self.new ≡ self.old }
-        ensures moved { (windows self.new ≢ windows self.old) → ground self.new ≡ raised self.old place day }
+        ensures moved { (windows self.new ≢ windows self.old) → footing self.new ≡ raised self.old place day }
         ensures framed { frame self.new ≡ frame self.old };
 
     // Moves the last day down to `day`, where it lies above.
     fn lower(&mut self, place: usize, day: u32) -> Result<(), StoreFault>
         ensures lowers { Lowers (windows self.old) place day result (windows self.new) }
         ensures still { windows self.new ≡ windows self.old → self.new ≡ self.old }
-        ensures moved { (windows self.new ≢ windows self.old) → ground self.new ≡ lowered self.old place day }
+        ensures moved { (windows self.new ≢ windows self.old) → footing self.new ≡ lowered self.old place day }
         ensures framed { frame self.new ≡ frame self.old };
 }
 

@@ -35,9 +35,9 @@ impl<S> Period<S> {
 impl<S: WindowStore> WindowStore for Period<S> {
     ghost windows = { λ s. map (in_periods s.length.days) (S.WindowStore.windows s.below) };
 
-    ghost Ground = { S.WindowStore.Ground };
+    ghost Footing = { S.WindowStore.Footing };
 
-    ghost ground = { λ s. S.WindowStore.ground s.below };
+    ghost footing = { λ s. S.WindowStore.footing s.below };
 
     // from the first day of that period on
     ghost raised = { λ s place period. S.WindowStore.raised s.below place (s.length.days * period) };

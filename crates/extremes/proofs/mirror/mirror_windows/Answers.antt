@@ -1,6 +1,6 @@
-use Rattle.std.proofs.Common.{◌≡◌, ◌+◌, [], ◌∷◌, ◌++◌, map, get_or, take, sym, refl, ap, ◌∙◌, ap₂, arith}
+use Rattle.std.proofs.Common.{[], ◌∷◌, ◌++◌, map, sym, ap, ◌∙◌, ap₂, arith}
 use Rattle.std.proofs.lemmas.List.{map_more, take_all, take_more_set}
-use Rattle.store.specs.Windows.{window, window_at}
+use Rattle.store.specs.Windows.{window}
 use Rattle.extremes.specs.Mirror.{mirrored}
 use Rattle.extremes.proofs.mirror.mirror_windows.Goals as goal
 

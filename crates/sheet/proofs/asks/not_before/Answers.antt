@@ -1,13 +1,14 @@
 use Rattle.std.proofs.Common.{Err, sym, ap, ◌∙◌, arith}
 use Rattle.std.proofs.lemmas.Result.{err_from_is_err_and}
-use Rattle.sheet.specs.Asks.{asked, told}
+use Rattle.sheet.specs.Asks.{asked}
+use Rattle.sheet.proofs.Told.{told_accepted, told_refused}
 use Rattle.sheet.proofs.asks.not_before.Goals as goal
 
-pub returns-in_err-raise : goal.returns-in_err-raise
-returns-in_err-raise g c =
-    let p = err_from_is_err_and c.from_residual-in_err-raise.result c.from_residual-in_err-raise.ensures.1 in
+pub returns-in_err-about_lot : goal.returns-in_err-about_lot
+returns-in_err-about_lot g c =
+    let p = err_from_is_err_and c.from_residual-in_err-about_lot.result c.from_residual-in_err-about_lot.ensures.1 in
     record {
-      asks = asked c.raise.result c.in_ok-all_agree.ensures (omega arith) c.raise.ensures.raises (p.1 ∙ ap Err p.2 ∙ sym (ap told c.in_err-raise.was));
+      asks = asked c.raise.result c.in_ok-all_agree.ensures (omega arith) c.raise.ensures.raises (p.1 ∙ ap Err p.2 ∙ sym (told_refused c.args.lot c.raise.result _ (sym c.about_lot.ensures ∙ c.in_err-about_lot.was)));
       still = c.raise.ensures.still;
       moved = c.raise.ensures.moved;
       framed = c.raise.ensures.framed;
@@ -16,7 +17,7 @@ returns-in_err-raise g c =
 pub returns : goal.returns
 returns g c =
     record {
-      asks = asked c.raise.result c.in_ok-all_agree.ensures (omega arith) c.raise.ensures.raises (sym (ap told c.in_ok-raise.was));
+      asks = asked c.raise.result c.in_ok-all_agree.ensures (omega arith) c.raise.ensures.raises (sym (told_accepted c.args.lot c.raise.result _ (sym c.about_lot.ensures ∙ c.in_ok-about_lot.was)));
       still = c.raise.ensures.still;
       moved = c.raise.ensures.moved;
       framed = c.raise.ensures.framed;
