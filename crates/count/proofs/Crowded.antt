@@ -1,11 +1,10 @@
 -- Crowded runs that share no day are at most half as many as the lots: each has a lot of its own in every count, and a surplus besides.
-use Rattle.std.proofs.Common.{◌≡◌, ℕ, suc, ◌+◌, ◌*◌, ◌<◌, ◌≤◌, List, [], ◌∷◌, map, length, refl, ap, inl, inr, arith}
+use Rattle.std.proofs.Common.{◌≡◌, ℕ, suc, ◌*◌, ◌<◌, ◌≤◌, List, [], ◌∷◌, map, length, refl, ap, inl, inr, arith}
 use Rattle.std.specs.List.{AllByRecursion as All}
 use Rattle.std.proofs.lemmas.Bool.Decides.{leb_tells, nat_tests}
 use Rattle.store.specs.declared.window.Window.{Window}
 use Rattle.store.specs.Windows.{window_at}
-use Rattle.nvalue.specs.Choices.{Choice, Crowded, Disjoint, ShareNoDay, load, surplus}
-use Rattle.nvalue.specs.Nvalue.{nvalue}
+use Rattle.nvalue.specs.Choices.{Crowded, Disjoint, ShareNoDay, load, surplus}
 use Rattle.nvalue.proofs.Bounds.{disjoint_bound}
 use Rattle.extremes.specs.Shown.{Greatest}
 

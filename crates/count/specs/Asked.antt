@@ -4,7 +4,7 @@ use Rattle.std.specs.Prelude.{◌≡◌, ℕ, ◌+◌, ◌-◌, ◌*◌, ◌<◌
 use Rattle.std.specs.List.{AllByRecursion as All}
 use Rattle.store.specs.declared.window.Window.{Window}
 use Rattle.store.specs.Pairs.{paired}
-use Rattle.nvalue.specs.Choices.{Disjoint, part}
+use Rattle.nvalue.specs.Choices.{part}
 use Rattle.count.specs.declared.fault.CountFault.{CountFault}
 use Rattle.count.specs.declared.fault.CountFault.TheVariants.{ShortWork, TooManyLots, FaultyWindow, NoSuchStretch, ShortAnswer}
 use Rattle.extremes.specs.Shown.{Least, Greatest}

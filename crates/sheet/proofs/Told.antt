@@ -2,7 +2,6 @@
 use Rattle.std.proofs.Common.{◌≡◌, ℕ, Ok, Err, Result, refl}
 use Rattle.store.specs.declared.fault.StoreFault.{StoreFault}
 use Rattle.sheet.specs.declared.fault.StoreRefusal.{StoreRefusal}
-use Rattle.sheet.specs.declared.fault.SheetFault.{SheetFault}
 use Rattle.sheet.specs.declared.fault.SheetFault.TheVariants.{Store}
 use Rattle.sheet.specs.Asks.{told}
 use Rattle.sheet.specs.Faults.{at_lot}

@@ -5,7 +5,7 @@ use Rattle.std.proofs.ByRecursion.{All-get_or}
 use Rattle.std.proofs.lemmas.List.{get_or-map, get_or-set_other, get_or-set_same, length-map}
 use Rattle.store.specs.declared.window.Window.{Window}
 use Rattle.store.specs.Windows.{window, window_at}
-use Rattle.nvalue.specs.Choices.{In, Choice}
+use Rattle.nvalue.specs.Choices.{Choice}
 use Rattle.nvalue.specs.Nvalue.{nvalue}
 use Rattle.nvalue.proofs.Choices.{choice_from_get_or, choice_get_or, choice_length, choice_set}
 use Rattle.tight.specs.FirstDays.{Best, FirstDay, FirstDays, LastDays, NoneBefore, Reached}

@@ -1,4 +1,4 @@
-use Rattle.std.proofs.Common.{sym, refl, ap, inl, inr, arith}
+use Rattle.std.proofs.Common.{refl, ap, inl, inr, arith}
 use Rattle.sheet.specs.Books.{looser, narrowed}
 use Rattle.sheet.proofs.Books.{rules_at, rules_length, rules_recounted}
 use Rattle.sheet.proofs.book.Book.narrow.Goals as goal

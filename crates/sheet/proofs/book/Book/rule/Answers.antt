@@ -1,4 +1,4 @@
-use Rattle.std.proofs.Common.{sym, ◌∙◌, arith, rules}
+use Rattle.std.proofs.Common.{sym, ◌∙◌, arith}
 use Rattle.sheet.specs.Books.{rule_at}
 use Rattle.sheet.proofs.Books.{recounted_same, rules_at, rules_length}
 use Rattle.sheet.proofs.book.Book.rule.Goals as goal
