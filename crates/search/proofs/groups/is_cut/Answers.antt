@@ -7,7 +7,7 @@ use Rattle.rules.specs.Cuts.{Cut}
 use Rattle.sheet.specs.Books.{rules_of, row, plain}
 use Rattle.search.proofs.Joined.{Clear, clear_not, not_clear}
 use Rattle.search.proofs.groups.is_cut.Goals as goal
-use Rattle.search.proofs.groups.is_cut.Goals.{in-Some+else-goes-across, in-default}
+use Rattle.search.proofs.groups.is_cut.Goals.{in-Some+else-goes_across, in_default}
 
 pub returns-then-goes_across : goal.returns-then-goes_across
 returns-then-goes_across c =

@@ -8,7 +8,7 @@ use Rattle.rules.specs.Plans.{Keeps}
 use Rattle.sheet.specs.Books.{rules_of, row}
 use Rattle.search.proofs.Booked.{rule_fits}
 use Rattle.search.proofs.lows.days_keep.Goals as goal
-use Rattle.search.proofs.lows.days_keep.Goals.{in-Some+else-not-keeps, in-default}
+use Rattle.search.proofs.lows.days_keep.Goals.{in-Some+else-not-keeps, in_default}
 
 pub keeps-requires-in-Some : goal.keeps-requires-in-Some
 keeps-requires-in-Some c =
