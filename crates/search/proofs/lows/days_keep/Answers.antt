@@ -10,8 +10,8 @@ use Rattle.search.proofs.Booked.{rule_fits}
 use Rattle.search.proofs.lows.days_keep.Goals as goal
 use Rattle.search.proofs.lows.days_keep.Goals.{in-Some+else-not-keeps, in_default}
 
-pub keeps-requires-in-Some : goal.keeps-requires-in-Some
-keeps-requires-in-Some c =
+pub keeps-requires : goal.keeps-requires
+keeps-requires c =
     let e = c.in-Some.ensures in
     let f = rule_fits c.args.book.now c.loop-number.number e.0 in
     omega (arith, f.1, ap (λ r. r.first) e.1, ap (λ r. r.length) e.1, c.requires)
