@@ -1,7 +1,7 @@
 -- The answer words of a question: a choice, then what shows its count, then what stood there before.
 use Rattle.std.proofs.Common.{◌≡◌, ℕ, ◌+◌, ◌-◌, ◌*◌, ◌≤◌, List, [], ◌∷◌, ◌++◌, map, length, take, drop, sym, refl, ap, ◌∙◌, subst, arith}
 use borrow.Rule.Slice.PartMut.{put_mid, post_of}
-use Rattle.std.specs.List.{AllByRecursion as All}
+use Rattle.std.specs.List.{AllByRecursion}
 use Rattle.std.proofs.ByRecursion.{All-map, All-from_get_or}
 use Rattle.std.proofs.lemmas.List.{drop_at, drop-drop, take_at}
 use Rattle.store.specs.declared.window.Window.{Window}
@@ -48,7 +48,7 @@ fewest_answered ws first m was days places numbers each least are many =
     record {
       shown = subst (λ ds. Least ws ds (map (λ lot. lot - first) (part (days ++ (numbers ++ rest)) n m)) m) (sym (written_days days numbers rest n m each many))
           (subst (λ ps. Least ws days ps m) (sym back) least);
-      numbers = subst (All (λ lot. first ≤ lot)) (sym (more ∙ are)) (All-map (λ lot. first ≤ lot) (λ p. first + p) places (All-from_get_or _ places 0 (λ i h. omega arith)));
+      numbers = subst (AllByRecursion (λ lot. first ≤ lot)) (sym (more ∙ are)) (All-map (λ lot. first ≤ lot) (λ p. first + p) places (All-from_get_or _ places 0 (λ i h. omega arith)));
       rest = written_rest days numbers rest n m each many;
     }
 

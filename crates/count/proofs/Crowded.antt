@@ -1,6 +1,6 @@
 -- Crowded runs that share no day are at most half as many as the lots: each has a lot of its own in every count, and a surplus besides.
 use Rattle.std.proofs.Common.{◌≡◌, ℕ, suc, ◌*◌, ◌<◌, ◌≤◌, List, [], ◌∷◌, map, length, refl, ap, inl, inr, arith}
-use Rattle.std.specs.List.{AllByRecursion as All}
+use Rattle.std.specs.List.{AllByRecursion}
 use Rattle.std.proofs.lemmas.Bool.Decides.{leb_tells, nat_tests}
 use Rattle.store.specs.declared.window.Window.{Window}
 use Rattle.store.specs.Windows.{window_at}
@@ -33,21 +33,21 @@ module _ (ws : List Window) where
   one : (run : Window) → Crowded ws run → Inside run ws
   one run c = inside run ws (omega arith)
 
-  lots : (runs : List Window) → All (Crowded ws) runs → List ℕ
+  lots : (runs : List Window) → AllByRecursion (Crowded ws) runs → List ℕ
   lots [] c = []
   lots (run ∷ runs) c = (one run c.0).lot ∷ lots runs c.1
 
-  length_lots : (runs : List Window) (c : All (Crowded ws) runs) → length (lots runs c) ≡ length runs
+  length_lots : (runs : List Window) (c : AllByRecursion (Crowded ws) runs) → length (lots runs c) ≡ length runs
   unfolding lots
   length_lots [] c = refl
   length_lots (run ∷ runs) c = ap suc (length_lots runs c.1)
 
-  there : (runs : List Window) (c : All (Crowded ws) runs) → All (λ lot. lot < length ws) (lots runs c)
+  there : (runs : List Window) (c : AllByRecursion (Crowded ws) runs) → AllByRecursion (λ lot. lot < length ws) (lots runs c)
   unfolding lots
   there [] c = tt
   there (run ∷ runs) c = ((one run c.0).there, there runs c.1)
 
-  clear : (run : Window) (i : Inside run ws) (runs : List Window) (c : All (Crowded ws) runs) → All (ShareNoDay run) runs → All (ShareNoDay (window_at ws i.lot)) (map (window_at ws) (lots runs c))
+  clear : (run : Window) (i : Inside run ws) (runs : List Window) (c : AllByRecursion (Crowded ws) runs) → AllByRecursion (ShareNoDay run) runs → AllByRecursion (ShareNoDay (window_at ws i.lot)) (map (window_at ws) (lots runs c))
   unfolding lots
   clear run i [] c s = tt
   clear run i (other ∷ runs) c s = (
@@ -56,13 +56,13 @@ module _ (ws : List Window) where
     clear run i runs c.1 s.1,
   )
 
-  apart : (runs : List Window) (c : All (Crowded ws) runs) → Disjoint runs → Disjoint (map (window_at ws) (lots runs c))
+  apart : (runs : List Window) (c : AllByRecursion (Crowded ws) runs) → Disjoint runs → Disjoint (map (window_at ws) (lots runs c))
   unfolding lots
   apart [] c d = tt
   apart (run ∷ runs) c d = (clear run (one run c.0) runs c.1 d.0, apart runs c.1 d.1)
 
   -- each run has a surplus
-  surplus_each : (runs : List Window) → All (Crowded ws) runs → length runs ≤ surplus ws runs
+  surplus_each : (runs : List Window) → AllByRecursion (Crowded ws) runs → length runs ≤ surplus ws runs
   surplus_each [] c = omega arith
   surplus_each (run ∷ runs) c = omega (arith, surplus_each runs c.1, c.0)
 

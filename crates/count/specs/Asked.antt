@@ -1,7 +1,7 @@
 -- What fewest and most are asked: which checks refuse, in which order, and what the lent memory holds afterwards.
 -- `work` is how many working words were lent, `room` how many answer words.
 use Rattle.std.specs.Prelude.{◌≡◌, ℕ, ◌+◌, ◌-◌, ◌*◌, ◌<◌, ◌≤◌, ◌⊎◌, List, map, length, take, drop}
-use Rattle.std.specs.List.{AllByRecursion as All}
+use Rattle.std.specs.List.{AllByRecursion}
 use Rattle.store.specs.declared.window.Window.{Window}
 use Rattle.store.specs.Pairs.{paired}
 use Rattle.nvalue.specs.Choices.{part}
@@ -19,7 +19,7 @@ pub data Unfit (ws : List Window) (e : CountFault) : Type 0 where
 pub record Accepts (work : ℕ) (ws : List Window) (first len room : ℕ) : Type 0 where
   pub words : 4096 ≤ work
   pub few : length ws ≤ 256
-  pub sound : All Sound ws
+  pub sound : AllByRecursion Sound ws
   pub some : 1 ≤ len
   pub within : first + len ≤ length ws
   pub fits : 2 * len ≤ room
@@ -29,13 +29,13 @@ pub data Refuses (work : ℕ) (ws : List Window) (first len room : ℕ) (e : Cou
   short_work : work < 4096 → e ≡ ShortWork → Refuses work ws first len room e
   too_many_lots : 4096 ≤ work → 256 < length ws → e ≡ TooManyLots → Refuses work ws first len room e
   faulty_window : (p : ℕ) → 4096 ≤ work → length ws ≤ 256 → FirstFaulty ws p → e ≡ FaultyWindow p → Refuses work ws first len room e
-  no_such_stretch : 4096 ≤ work → length ws ≤ 256 → All Sound ws → (len ≡ 0) ⊎ (length ws < first + len) → e ≡ NoSuchStretch → Refuses work ws first len room e
-  short_answer : 4096 ≤ work → length ws ≤ 256 → All Sound ws → 1 ≤ len → first + len ≤ length ws → room < 2 * len → e ≡ ShortAnswer → Refuses work ws first len room e
+  no_such_stretch : 4096 ≤ work → length ws ≤ 256 → AllByRecursion Sound ws → (len ≡ 0) ⊎ (length ws < first + len) → e ≡ NoSuchStretch → Refuses work ws first len room e
+  short_answer : 4096 ≤ work → length ws ≤ 256 → AllByRecursion Sound ws → 1 ≤ len → first + len ≤ length ws → room < 2 * len → e ≡ ShortAnswer → Refuses work ws first len room e
 
 -- The answer words hold a choice for the windows ws of a stretch, one word a lot, then m lot numbers; `first` is the number of the stretch's first lot.
 pub record FewestAnswer (ws : List Window) (first : ℕ) (was is : List ℕ) (m : ℕ) : Type 0 where
   pub shown : Least ws (take (length ws) is) (map (λ lot. lot - first) (part is (length ws) m)) m
-  pub numbers : All (λ lot. first ≤ lot) (part is (length ws) m)
+  pub numbers : AllByRecursion (λ lot. first ≤ lot) (part is (length ws) m)
   pub rest : drop (length ws + m) is ≡ drop (length ws + m) was
 
 -- The answer words hold a choice for the windows ws of a stretch, one word a lot, then s runs as first and last day.

@@ -1,6 +1,6 @@
 // The fewest different days of a stretch, over any store.
 ghost use Rattle.std.specs.Prelude.{◌≡◌, ℕ, ◌+◌, ◌*◌, ◌<◌, ◌≤◌, map, length, MatchResult, slice_index};
-ghost use Rattle.std.specs.List.{AllByRecursion as All};
+ghost use Rattle.std.specs.List.{AllByRecursion};
 ghost use Rattle.nvalue.specs.Choices.{part};
 ghost use Rattle.count.specs.Asked.{Accepts, Refuses, FewestAnswer};
 ghost use Rattle.store.specs.Sound.{Sound};
@@ -51,7 +51,7 @@ fn fewest_on<S: WindowStore>(
 
 // Answers for the windows of a stretch that begins at the lot `first`.
 fn answer_fewest(windows: &[Window], first: usize, answer: &mut [u32]) -> usize
-    requires sound { All Sound windows.now }
+    requires sound { AllByRecursion Sound windows.now }
     requires few { length windows.now ≤ 256 }
     requires within { first ≤ 256 }
     requires room { 2 * length windows.now ≤ length answer.old }
@@ -71,7 +71,7 @@ fn answer_fewest(windows: &[Window], first: usize, answer: &mut [u32]) -> usize
 // Writes the numbers of lots that are given by their places in the stretch.
 fn number_lots(places: &[u32], first: u32, numbers: &mut [u32])
     requires each { length numbers.old ≡ length places.now }
-    requires small { All (λ p. p < 256) places.now }
+    requires small { AllByRecursion (λ p. p < 256) places.now }
     requires within { first ≤ 256 }
     ensures { numbers.new ≡ map (λ p. first + p) places.now }
 {

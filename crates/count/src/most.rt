@@ -1,6 +1,6 @@
 // The most different days of a stretch, over any store.
 ghost use Rattle.std.specs.Prelude.{◌≡◌, ℕ, ◌+◌, ◌*◌, ◌<◌, ◌≤◌, length, MatchResult, slice_index};
-ghost use Rattle.std.specs.List.{AllByRecursion as All};
+ghost use Rattle.std.specs.List.{AllByRecursion};
 ghost use Rattle.store.specs.Pairs.{paired};
 ghost use Rattle.nvalue.specs.Choices.{part};
 ghost use Rattle.count.specs.Asked.{Accepts, Refuses, MostAnswer};
@@ -55,7 +55,7 @@ fn most_on<S: WindowStore>(
 
 // Answers for the windows of a stretch.
 fn answer_most(windows: &[Window], answer: &mut [u32]) -> Most
-    requires sound { All Sound windows.now }
+    requires sound { AllByRecursion Sound windows.now }
     requires few { length windows.now ≤ 256 }
     requires room { 2 * length windows.now ≤ length answer.old }
     ensures { MostAnswer windows.now answer.old answer.new result.count result.runs }

@@ -1,6 +1,6 @@
 // What every question does first: copy the store's windows onto the page, look for a faulty one, and take the stretch.
 ghost use Rattle.std.specs.Prelude.{◌≡◌, ℕ, ◌+◌, ◌*◌, ◌<◌, ◌≤◌, List, length, take, MatchOption, MatchResult};
-ghost use Rattle.std.specs.List.{AllByRecursion as All};
+ghost use Rattle.std.specs.List.{AllByRecursion};
 ghost use Rattle.store.specs.Pairs.{paired};
 ghost use Rattle.store.specs.Windows.{window_at};
 ghost use Rattle.nvalue.specs.Choices.{part};

@@ -1,7 +1,7 @@
 -- A packing of all lots shows the greatest count: its days are a choice with that count, and its runs are crowded by the lots left over.
 use Rattle.std.proofs.Common.{◌≡◌, ℕ, suc, ◌+◌, ◌<◌, ◌≤◌, Bool, true, false, cond, List, [], ◌∷◌, length, get_or, take, sum_by, sym, refl, ap, ◌∙◌, subst, arith}
 use Rattle.std.specs.List.Sorted.{IsPermutation}
-use Rattle.std.specs.List.{ContainsAt as Has, AllByRecursion as All}
+use Rattle.std.specs.List.{ContainsAt as Has, AllByRecursion}
 use Rattle.std.proofs.ByRecursion.{All-from_get_or, has_get_or}
 use Rattle.std.proofs.lemmas.List.{get_or-take, length-take-le, take_all}
 use Rattle.std.proofs.lemmas.List.Sums.{get_or-le-sum_by, sum_by-cons}
@@ -62,7 +62,7 @@ loads_more (r ∷ rs) w os =
     omega (arith, sum_by-cons (λ q. load q (w ∷ os)) r rs, sum_by-cons (λ q. cond (inside q w) 1 0) r rs, sum_by-cons (λ q. load q os) r rs)
 
 -- runs with so many lots more than days have at least that surplus
-loads_surplus : (ws os rs : List Window) → All (λ r. size r + load r os ≤ load r ws) rs → sum_by (λ r. load r os) rs ≤ surplus ws rs
+loads_surplus : (ws os rs : List Window) → AllByRecursion (λ r. size r + load r os ≤ load r ws) rs → sum_by (λ r. load r os) rs ≤ surplus ws rs
 loads_surplus ws os [] h = omega arith
 loads_surplus ws os (r ∷ rs) (h, hs) = let i = loads_surplus ws os rs hs in omega (arith, sum_by-cons (λ q. load q os) r rs)
 
@@ -77,7 +77,7 @@ module _ (ws : List Window) (order : List (ℕ × ℕ)) (shuffled : IsPermutatio
   total_length = omega (arith, total (λ w. 1), length_sum ws, length_sum p.overs, length_sum (windows_of p.takers), length_windows p.takers)
 
   -- what holds of the packing's runs by place holds of the list of them
-  runs_all : (Q : Window → Type 0) → ((k : ℕ) → k < most.runs → Q (window_at runs k)) → All Q (take most.runs runs)
+  runs_all : (Q : Window → Type 0) → ((k : ℕ) → k < most.runs → Q (window_at runs k)) → AllByRecursion Q (take most.runs runs)
   runs_all Q f =
       All-from_get_or Q (take most.runs runs) (window 0 0) (λ k l.
       let b : k < most.runs = omega (arith, length-take-le most.runs runs room) in
@@ -89,7 +89,7 @@ module _ (ws : List Window) (order : List (ℕ × ℕ)) (shuffled : IsPermutatio
       let s = full_load r p.takers (p.packed.full k l).0 in
       omega (arith, total (λ w. cond (inside r w) 1 0), load_sum r ws, load_sum r p.overs, load_sum r (windows_of p.takers))
 
-  runs_crowded : All (Crowded ws) (take most.runs runs)
+  runs_crowded : AllByRecursion (Crowded ws) (take most.runs runs)
   runs_crowded = runs_all (Crowded ws) (λ k l. omega (arith, loaded k l, (p.packed.full k l).1))
 
   runs_disjoint : Disjoint (take most.runs runs)
@@ -99,7 +99,7 @@ module _ (ws : List Window) (order : List (ℕ × ℕ)) (shuffled : IsPermutatio
       omega (arith, p.packed.rising j k a l, ap (λ r. r.high) (get_or-take most.runs runs j (window 0 0) (omega arith)), ap (λ r. r.low) (get_or-take most.runs runs k (window 0 0) l)))
 
   -- windows that each lie in a run are no more than the loads of the runs
-  held_loads : (os : List Window) → All (Held runs most.runs p.last) os → length os ≤ sum_by (λ r. load r os) (take most.runs runs)
+  held_loads : (os : List Window) → AllByRecursion (Held runs most.runs p.last) os → length os ≤ sum_by (λ r. load r os) (take most.runs runs)
   held_loads [] h = omega arith
   held_loads (w ∷ os) ((before, (k, b, l, h)), hs) =
       let rest = held_loads os hs in

@@ -2,7 +2,7 @@
 use Rattle.std.proofs.Common.{◌≡◌, ℕ, zero, suc, ◌+◌, ◌<◌, ◌≤◌, false, cond, eqb, ltb, List, [], ◌∷◌, length, get_or, take, sum_by, sym, refl, ap, ◌∙◌, subst, arith}
 use Rattle.std.specs.Ordering.{is_lt, nat_cmp, ordering_then}
 use Rattle.std.specs.List.Sorted.{IsNonDecreasingBy, IsPermutation, IsSortedBy}
-use Rattle.std.specs.List.{AllByRecursion as All}
+use Rattle.std.specs.List.{AllByRecursion}
 use Rattle.std.proofs.ByRecursion.{All-from_get_or, All-get_or, has_get_or, all_shuffled, has_shuffled}
 use Rattle.std.proofs.lemmas.List.Sorted.{length_permutation, IsNonDecreasingBy-from_all_adjacent, sum_by-IsPermutation}
 use Rattle.std.proofs.lemmas.List.{get_or-take, length-take}
@@ -61,7 +61,7 @@ module _ (ws : List Window) (order : List (ℕ × ℕ)) (shuffled : IsPermutatio
   length_order = length_permutation _ _ shuffled ∙ length_slots 0 ws
 
   -- a slot names a lot with its last day
-  named : All (λ s. (s.1 < length ws) × (s.0 ≡ (window_at ws s.1).high)) order
+  named : AllByRecursion (λ s. (s.1 < length ws) × (s.0 ≡ (window_at ws s.1).high)) order
   named =
       all_shuffled _ _ _ shuffled
       (All-from_get_or _ (slots 0 ws) (0, 0) (λ i h.

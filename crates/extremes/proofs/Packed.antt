@@ -1,6 +1,6 @@
 -- Lots that take days one after the other: what ties the takers, the left-over windows, the runs and the chosen days, and how a turn keeps it.
 use Rattle.std.proofs.Common.{◌≡◌, ℕ, ◌+◌, ◌-◌, ◌<◌, ◌≤◌, Bool, true, false, cond, ◌&&◌, eqb, leb, List, [], ◌∷◌, length, get_or, set, sym, refl, ap, ◌∙◌, subst, inl, inr, arith, below_more}
-use Rattle.std.specs.List.{AllByRecursion as All}
+use Rattle.std.specs.List.{AllByRecursion}
 use Rattle.std.proofs.ByRecursion.{All-weaker}
 use Rattle.std.proofs.lemmas.List.{get_or-set_same, get_or-set_other}
 use Rattle.std.proofs.lemmas.Bool.{cases_eq, cases_lt}
@@ -69,8 +69,8 @@ runs_push Q runs i run l old new =
 pub record Packed (taken : List Bool) (runs : List Window) (top : ℕ) (ts : List Taker) (os : List Window) (last : ℕ) : Type 0 where
   pub marks : (d : ℕ) → cond (get_or taken d false) 1 0 ≡ has d (days_of ts)
   pub apart : nvalue (days_of ts) ≡ length ts
-  pub early : All (Early (days_of ts) last) ts
-  pub held : All (Held runs top last) os
+  pub early : AllByRecursion (Early (days_of ts) last) ts
+  pub held : AllByRecursion (Held runs top last) os
   pub full : (k : ℕ) → k < top → Full ts os (window_at runs k)
   pub rising : (j k : ℕ) → j < k → k < top → (window_at runs j).high < (window_at runs k).low
 
@@ -99,7 +99,7 @@ module _ (taken : List Bool) (runs : List Window) (top : ℕ) (ts : List Taker) 
     edge_free h = let f = edge h in let m = p.marks (start - 1) in grind arith
 
     -- takers of days of the run have their windows inside it
-    run_filled : (e : ℕ) → start ≤ e → e ≤ w.high → (us : List Taker) → All (Early (days_of ts) last) us → has e (days_of us) ≤ has e (within (window start w.high) us)
+    run_filled : (e : ℕ) → start ≤ e → e ≤ w.high → (us : List Taker) → AllByRecursion (Early (days_of ts) last) us → has e (days_of us) ≤ has e (within (window start w.high) us)
     run_filled e a b [] h = omega arith
     run_filled e a b (u ∷ us) (h, hs) =
         let rest = run_filled e a b us hs in

@@ -1,7 +1,7 @@
 -- The packing of lots into days: what stands after so many turns, at the start and after one turn more.
 use Rattle.std.proofs.Common.{◌≡◌, ℕ, ◌+◌, ◌<◌, ◌≤◌, Bool, true, false, cond, eqb, List, [], ◌∷◌, length, get_or, take, set, replicate, sum_by, refl, ap, ◌∙◌, inl, inr, arith}
 use Rattle.std.specs.List.Sorted.{IsNonDecreasingBy, IsPermutation}
-use Rattle.std.specs.List.{AllByRecursion as All}
+use Rattle.std.specs.List.{AllByRecursion}
 use Rattle.std.proofs.ByRecursion.{All-get_or}
 use Rattle.std.proofs.lemmas.List.{get_or_past, get_or-replicate, length-set}
 use Rattle.std.proofs.lemmas.List.Sums.{sum_by-cons, sum_by_more}
@@ -63,7 +63,7 @@ packing_none ws order days runs = record {
   ahead = λ k a l. omega arith;
 }
 
-module _ (ws : List Window) (order : List (ℕ × ℕ)) (shuffled : IsPermutation (slots 0 ws) order) (rises : IsNonDecreasingBy (λ s. s.0) order) (sound : All Sound ws)
+module _ (ws : List Window) (order : List (ℕ × ℕ)) (shuffled : IsPermutation (slots 0 ws) order) (rises : IsNonDecreasingBy (λ s. s.0) order) (sound : AllByRecursion Sound ws)
     (t : ℕ) (taken : List Bool) (days : List ℕ) (runs : List Window) (most : Most) (p : Packing ws order t taken days runs most)
     (more : t < length ws) (day-each : length days ≡ length ws) (run_room : length ws ≤ length runs) (day : ℕ) (taken' : List Bool) (runs' : List Window) (most' : Most) where
   -- the next lot's window ends no earlier than those before, and no later than those to come

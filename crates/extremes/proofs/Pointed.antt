@@ -1,7 +1,7 @@
 -- Serving lots in the order of their last days: what holds of the points after so many slots, and that it shows the least count at the end.
 use Rattle.std.proofs.Common.{◌≡◌, ℕ, suc, ◌+◌, ◌-◌, ◌<◌, ◌≤◌, ◌⊎◌, List, [], ◌∷◌, map, length, get_or, take, set, sym, refl, ap, ◌∙◌, subst, inl, inr, arith}
 use Rattle.std.specs.List.Sorted.{IsNonDecreasingBy, IsPermutation}
-use Rattle.std.specs.List.{AllByRecursion as All}
+use Rattle.std.specs.List.{AllByRecursion}
 use Rattle.std.proofs.ByRecursion.{All-get_or, All-from_get_or}
 use Rattle.std.proofs.lemmas.List.{get_or-set_same, get_or-set_other, get_or-take, get_or-map, length-map, length-take-le}
 use Rattle.std.proofs.lemmas.Bool.{cases_eq}
@@ -40,7 +40,7 @@ pointed_none ws order days lots = record {
 }
 
 module _ (ws : List Window) (order : List (ℕ × ℕ)) (days lots : List ℕ) (t count point : ℕ) (p : Pointed ws order days lots t count point)
-    (sound : All Sound ws) (shuffled : IsPermutation (slots 0 ws) order) (rises : IsNonDecreasingBy (λ s. s.0) order) (in' : t < length ws)
+    (sound : AllByRecursion Sound ws) (shuffled : IsPermutation (slots 0 ws) order) (rises : IsNonDecreasingBy (λ s. s.0) order) (in' : t < length ws)
     (day-each : length days ≡ length ws) (room : length ws ≤ length lots) where
   abbrev place : ℕ
   place = (get_or order t (0, 0)).1
@@ -159,7 +159,7 @@ module _ (ws : List Window) (order : List (ℕ × ℕ)) (days lots : List ℕ) (
   shown : (j : ℕ) → j < count → window_at (map (window_at ws) (take count lots)) j ≡ window_at ws (get_or lots j 0)
   shown j h = get_or-map (window_at ws) (take count lots) j 0 (window 0 0) (omega (arith, many)) ∙ ap (window_at ws) (named j h)
 
-  all_there : All (λ lot. lot < length ws) (take count lots)
+  all_there : AllByRecursion (λ lot. lot < length ws) (take count lots)
   all_there = All-from_get_or _ (take count lots) 0 (λ j h. subst (λ l. l < length ws) (sym (named j (omega (arith, many)))) (p.there j (omega (arith, many))))
 
   apart : Disjoint (map (window_at ws) (take count lots))

@@ -1,6 +1,6 @@
 -- What shows that a count is the least or the greatest of any choice for a list of windows.
 use Rattle.std.specs.Prelude.{◌≡◌, ℕ, ◌+◌, ◌<◌, ◌≤◌, List, map, length}
-use Rattle.std.specs.List.{AllByRecursion as All}
+use Rattle.std.specs.List.{AllByRecursion}
 use Rattle.store.specs.declared.window.Window.{Window}
 use Rattle.store.specs.Windows.{window_at}
 use Rattle.nvalue.specs.Choices.{Choice, Disjoint, Crowded, surplus}
@@ -12,7 +12,7 @@ pub record Least (ws : List Window) (days lots : List ℕ) (m : ℕ) : Type 0 wh
   pub choice : Choice ws days
   pub count : nvalue days ≡ m
   pub many : length lots ≡ m
-  pub there : All (λ lot. lot < length ws) lots
+  pub there : AllByRecursion (λ lot. lot < length ws) lots
   pub disjoint : Disjoint (map (window_at ws) lots)
   pub least : (ds : List ℕ) → Choice ws ds → m ≤ nvalue ds
 
@@ -22,7 +22,7 @@ pub record Greatest (ws : List Window) (days : List ℕ) (runs : List Window) (m
   pub choice : Choice ws days
   pub count : nvalue days ≡ m
   pub disjoint : Disjoint runs
-  pub crowded : All (Crowded ws) runs
+  pub crowded : AllByRecursion (Crowded ws) runs
   pub adds_up : m + surplus ws runs ≡ length ws
   pub greatest : (ds : List ℕ) → Choice ws ds → nvalue ds ≤ m
 

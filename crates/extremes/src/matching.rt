@@ -1,7 +1,7 @@
 // The most different days of a list of windows: a matching of lots to days, in which lots in the order of their last days take the earliest free day of their window.
 ghost use Rattle.std.specs.Prelude.{◌≡◌, ℕ, ◌+◌, ◌-◌, ◌<◌, ◌≤◌, length, take};
 ghost use Rattle.std.specs.List.Sorted.{IsNonDecreasingBy, IsPermutation};
-ghost use Rattle.std.specs.List.{AllByRecursion as All};
+ghost use Rattle.std.specs.List.{AllByRecursion};
 ghost use Rattle.store.specs.Windows.{window_at};
 ghost use Rattle.extremes.specs.Orders.{slots};
 ghost use Rattle.extremes.specs.Shown.{Greatest};
@@ -20,7 +20,7 @@ pub struct Most {
 
 // Writes a choice with the most different days, and the runs that show that no choice has more.
 pub fn most_of(windows: &[Window], days: &mut [u32], runs: &mut [Window]) -> Most
-    requires sound { All Sound windows.now }
+    requires sound { AllByRecursion Sound windows.now }
     requires few { length windows.now ≤ 256 }
     requires day_each { length days.old ≡ length windows.now }
     requires run_room { length windows.now ≤ length runs.old }
@@ -35,7 +35,7 @@ pub fn most_of(windows: &[Window], days: &mut [u32], runs: &mut [Window]) -> Mos
 
 // Gives each lot its day, in the given order.
 fn place_lots(windows: &[Window], order: &[Slot], days: &mut [u32], runs: &mut [Window]) -> Most
-    requires sound { All Sound windows.now }
+    requires sound { AllByRecursion Sound windows.now }
     requires few { length windows.now ≤ 256 }
     requires day_each { length days.old ≡ length windows.now }
     requires run_room { length windows.now ≤ length runs.old }

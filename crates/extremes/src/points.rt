@@ -1,6 +1,6 @@
 // The fewest different days of a list of windows: lots in the order of their last days take the last point, or open one at their own last day.
 ghost use Rattle.std.specs.Prelude.{◌≡◌, ◌≤◌, length, take};
-ghost use Rattle.std.specs.List.{AllByRecursion as All};
+ghost use Rattle.std.specs.List.{AllByRecursion};
 ghost use Rattle.std.specs.List.Sorted.{IsNonDecreasingBy, IsPermutation};
 ghost use Rattle.extremes.specs.Orders.{slots};
 ghost use Rattle.extremes.specs.Points.{lasts, Points};
@@ -12,7 +12,7 @@ use store::window::Window;
 
 // Writes a choice with the fewest different days, and as many lots whose windows share no day pairwise.
 pub fn fewest_of(windows: &[Window], days: &mut [u32], lots: &mut [u32]) -> usize
-    requires sound { All Sound windows.now }
+    requires sound { AllByRecursion Sound windows.now }
     requires few { length windows.now ≤ 256 }
     requires day_each { length days.old ≡ length windows.now }
     requires lot_room { length windows.now ≤ length lots.old }
@@ -28,7 +28,7 @@ pub fn fewest_of(windows: &[Window], days: &mut [u32], lots: &mut [u32]) -> usiz
 
 // Serves the lots in order: one whose window begins past the last point opens a new one at its last day.
 fn serve(windows: &[Window], order: &[Slot], days: &mut [u32], lots: &mut [u32]) -> usize
-    requires sound { All Sound windows.now }
+    requires sound { AllByRecursion Sound windows.now }
     requires few { length windows.now ≤ 256 }
     requires day_each { length days.old ≡ length windows.now }
     requires lot_room { length windows.now ≤ length lots.old }

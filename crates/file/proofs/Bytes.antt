@@ -1,6 +1,6 @@
 -- Numbers, lots and rules in bytes, taken apart and put together again.
 use Rattle.std.proofs.Common.{◌≡◌, ℕ, zero, suc, ◌+◌, ◌-◌, ◌*◌, ◌/◌, ◌%◌, ◌<◌, ◌≤◌, List, [], ◌∷◌, ◌++◌, length, get_or, take, drop, set, sym, refl, ap, ◌∙◌, subst, ap₂, arith, take-add}
-use Rattle.std.specs.List.{AllByRecursion as All}
+use Rattle.std.specs.List.{AllByRecursion}
 use Rattle.std.proofs.lemmas.List.{get_or-drop, flat_map_more, length-drop, take_rest}
 use Rattle.std.proofs.ByRecursion.{All-push}
 use Rattle.store.specs.declared.window.Window.{Window}
@@ -94,6 +94,6 @@ module _ (ws file : List ℕ) (p l h : ℕ) (room : 2 * p + 1 < length ws) (ther
       ∙ ap (λ n. take n file) (omega arith)
 
   -- and it is small
-  pub small_read : All SmallLot (paired (take (2 * p) ws)) → SmallLot (window l h) → All SmallLot (paired (take (2 * (p + 1)) (set (set ws (2 * p) l) (2 * p + 1) h)))
+  pub small_read : AllByRecursion SmallLot (paired (take (2 * p) ws)) → SmallLot (window l h) → AllByRecursion SmallLot (paired (take (2 * (p + 1)) (set (set ws (2 * p) l) (2 * p + 1) h)))
   small_read was one =
-      subst (All SmallLot) (sym (paired_more ws p l h room)) (All-push SmallLot (paired (take (2 * p) ws)) (window l h) was one)
+      subst (AllByRecursion SmallLot) (sym (paired_more ws p l h room)) (All-push SmallLot (paired (take (2 * p) ws)) (window l h) was one)

@@ -1,6 +1,6 @@
 -- One text written behind another is both of them written.
 use Rattle.std.proofs.Common.{◌≡◌, ℕ, ◌+◌, ◌*◌, ◌<◌, ◌≤◌, List, [], ◌∷◌, ◌++◌, length, get_or, take, drop, set, sym, refl, ap, ◌∙◌, subst, ap₂, add-one, arith}
-use Rattle.std.specs.List.{flat_map, AllByRecursion as All}
+use Rattle.std.specs.List.{flat_map, AllByRecursion}
 use Rattle.std.proofs.ByRecursion.{All-get_or}
 use Rattle.std.proofs.lemmas.List.{append_assoc, drop_at, drop-drop, get_or-take, flat_map_more, length-append, length-drop, length-set, length-take-le, set_split, take_at, take-append-drop, take_more}
 use Rattle.store.specs.declared.window.Window.{Window}
@@ -62,7 +62,7 @@ over_joined f was mid is n m xs i d x h e room place one more =
     ∙ ap (over was n) (flat_map_more f [] (take i xs) x ∙ ap (λ y. flat_map f (take i xs ++ y ∷ [])) e ∙ ap (flat_map f) (sym (take_more xs i d h)))
 
 -- a sheet's windows and rules fit two bytes
-pub lot_small : (ws : List Window) (lots i : ℕ) (w : Window) → i < lots → lots ≤ length ws → All Sound (take lots ws) → w ≡ window_at ws i → SmallLot w
+pub lot_small : (ws : List Window) (lots i : ℕ) (w : Window) → i < lots → lots ≤ length ws → AllByRecursion Sound (take lots ws) → w ≡ window_at ws i → SmallLot w
 lot_small ws lots i w h fits sound e =
     let s : Sound w = subst Sound (get_or-take lots ws i (window 0 0) h ∙ sym e) (All-get_or Sound (take lots ws) i (window 0 0) (omega (arith, length-take-le lots ws fits)) sound) in
     (omega (arith, s.0, s.1), omega (arith, s.1))

@@ -1,6 +1,6 @@
 -- A file that agrees with its trailer is the file of its lots and its rules.
 use Rattle.std.proofs.Common.{◌≡◌, ℕ, zero, suc, ◌+◌, ◌-◌, ◌*◌, ◌<◌, ◌≤◌, List, [], ◌∷◌, ◌++◌, length, get_or, take, drop, Ok, sym, refl, ap, ◌∙◌, subst, ap₂, arith, take-add}
-use Rattle.std.specs.List.{AllByRecursion as All}
+use Rattle.std.specs.List.{AllByRecursion}
 use Rattle.std.proofs.lemmas.List.{drop-drop, get_or-drop, length-drop, length-take-le, take_all, take-append-drop}
 use Rattle.store.specs.Pairs.{paired}
 use Rattle.file.specs.declared.read.Contents.{Contents}
@@ -36,7 +36,7 @@ rows_many (suc n) bs = ap suc (rows_many n (drop 8 bs))
 small : (bs : List ℕ) (k : ℕ) → Bytes bs → number_at bs k < 65536
 small bs k byte = omega (arith, byte k, byte (k + 1))
 
-pub rows_small : (n : ℕ) (bs : List ℕ) → Bytes bs → All SmallRule (rows_in n bs)
+pub rows_small : (n : ℕ) (bs : List ℕ) → Bytes bs → AllByRecursion SmallRule (rows_in n bs)
 rows_small zero bs byte = tt
 rows_small (suc n) bs byte = ((small bs 0 byte, small bs 2 byte, small bs 4 byte, small bs 6 byte), rows_small n (drop 8 bs) (bytes_drop 8 bs byte))
 
@@ -54,7 +54,7 @@ end_is file byte ends =
 
 module _ (file was is : List ℕ) (byte : Bytes file) (ends : Ends file) (agrees : Agrees file) where
   -- what was read of such a file
-  pub read_held : (h : Contents) (n m : ℕ) → n ≡ lots_in file → m ≡ rules_in file → 2 * n ≤ length was → lots_bytes (paired (take (2 * n) is)) ≡ take (4 * n) file → All SmallLot (paired (take (2 * n) is)) → drop (2 * n) is ≡ drop (2 * n) was
+  pub read_held : (h : Contents) (n m : ℕ) → n ≡ lots_in file → m ≡ rules_in file → 2 * n ≤ length was → lots_bytes (paired (take (2 * n) is)) ≡ take (4 * n) file → AllByRecursion SmallLot (paired (take (2 * n) is)) → drop (2 * n) is ≡ drop (2 * n) was
       → h.lots ≡ n → h.rules ≡ m → h.rows.now ≡ take (8 * m) (drop (4 * n) file) → Reads file was (Ok h) is
   read_held h n m en em room bytes few rest el er part =
       let ws = paired (take (2 * n) is) in

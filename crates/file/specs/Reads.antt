@@ -1,6 +1,6 @@
 -- What reading a sheet file gives, case by case in the order of the checks; a refusal leaves the words as they were.
 use Rattle.std.specs.Prelude.{◌≡◌, ℕ, ◌+◌, ◌-◌, ◌*◌, ◌<◌, ◌≤◌, List, length, take, drop, Ok, Err, Result, slice_index}
-use Rattle.std.specs.List.{AllByRecursion as All}
+use Rattle.std.specs.List.{AllByRecursion}
 use Rattle.store.specs.declared.window.Window.{Window}
 use Rattle.store.specs.Pairs.{paired}
 use Rattle.rules.specs.declared.row.Row.{Row}
@@ -38,6 +38,6 @@ pub data Reads (file was : List ℕ) (r : Result Contents FileFault) (is : List 
   trailer_disagrees : Ends file → (Agrees file → ⊥) → r ≡ Err TrailerDisagrees → is ≡ was → Reads file was r is
   short_words : Ends file → Agrees file → length was < 2 * lots_in file → r ≡ Err ShortWords → is ≡ was → Reads file was r is
   held : (ws : List Window) (rows : List Row) (held : Contents) → Ends file → Agrees file → 2 * lots_in file ≤ length was
-      → All SmallLot ws → All SmallRule rows → file ≡ file_of ws rows → length ws ≤ 256 → length rows ≤ 32
+      → AllByRecursion SmallLot ws → AllByRecursion SmallRule rows → file ≡ file_of ws rows → length ws ≤ 256 → length rows ≤ 32
       → r ≡ Ok held → held.lots ≡ length ws → held.rules ≡ length rows → held.rows.now ≡ rules_bytes rows
       → paired (take (2 * length ws) is) ≡ ws → drop (2 * length ws) is ≡ drop (2 * length ws) was → Reads file was r is

@@ -1,6 +1,6 @@
 -- Adding the rules that some bytes hold.
 use Rattle.std.specs.Prelude.{◌≡◌, ℕ, zero, suc, ◌+◌, ◌*◌, ◌<◌, List, [], ◌∷◌, ◌++◌, length, drop, Ok, Err, Result, slice_index}
-use Rattle.std.specs.List.{AllByRecursion as All}
+use Rattle.std.specs.List.{AllByRecursion}
 use Rattle.rules.specs.declared.row.Row.{Row}
 use Rattle.sheet.specs.declared.book.Book.{Book}
 use Rattle.sheet.specs.declared.fault.SheetFault.{SheetFault}
@@ -31,5 +31,5 @@ told (Err fault) = Err (Sheet fault)
 
 -- The bytes are those of some rules, and fewer than eight more: just these rules are added, all or none.
 pub data AddsBytes (bytes : List ℕ) (slip : Draft) (was : Book) (r : Result (Unit {0}) FileFault) (slip' : Draft) (is : Book) : Type 0 where
-  adds : (rows : List Row) (rest : List ℕ) (s : Result (Unit {0}) SheetFault) → All SmallRule rows → bytes ≡ rules_bytes rows ++ rest → length rest < 8
+  adds : (rows : List Row) (rest : List ℕ) (s : Result (Unit {0}) SheetFault) → AllByRecursion SmallRule rows → bytes ≡ rules_bytes rows ++ rest → length rest < 8
       → AddsAll rows slip was s slip' is → r ≡ told s → AddsBytes bytes slip was r slip' is

@@ -1,6 +1,6 @@
 -- What writing a sheet file gives, case by case in the order of the checks; a refusal leaves the bytes as they were.
 use Rattle.std.specs.Prelude.{◌≡◌, ℕ, ◌+◌, ◌<◌, ◌≤◌, List, ◌++◌, length, take, drop, Ok, Err, Result, ◌≢◌}
-use Rattle.std.specs.List.{AllByRecursion as All}
+use Rattle.std.specs.List.{AllByRecursion}
 use Rattle.store.specs.declared.window.Window.{Window}
 use Rattle.store.specs.Sound.{FirstFaulty, Sound}
 use Rattle.sheet.specs.declared.book.Book.{Book}
@@ -22,6 +22,6 @@ pub data Writes (ws : List Window) (book : Book) (was : List ℕ) (r : Result �
   too_many_lots : 256 < length ws → r ≡ Err (Sheet TooManyLots) → is ≡ was → Writes ws book was r is
   mismatch : length ws ≤ 256 → (lots_of book ≢ length ws) → r ≡ Err (Sheet Mismatch) → is ≡ was → Writes ws book was r is
   faulty_window : (lot : ℕ) → length ws ≤ 256 → lots_of book ≡ length ws → FirstFaulty ws lot → r ≡ Err (Sheet (FaultyWindow lot)) → is ≡ was → Writes ws book was r is
-  short_bytes : length ws ≤ 256 → lots_of book ≡ length ws → All Sound ws → length was < length (sheet_file ws book) → r ≡ Err ShortBytes → is ≡ was → Writes ws book was r is
-  written : length ws ≤ 256 → lots_of book ≡ length ws → All Sound ws → length (sheet_file ws book) ≤ length was → length (rules_of book) ≤ 32
+  short_bytes : length ws ≤ 256 → lots_of book ≡ length ws → AllByRecursion Sound ws → length was < length (sheet_file ws book) → r ≡ Err ShortBytes → is ≡ was → Writes ws book was r is
+  written : length ws ≤ 256 → lots_of book ≡ length ws → AllByRecursion Sound ws → length (sheet_file ws book) ≤ length was → length (rules_of book) ≤ 32
       → r ≡ Ok (length (sheet_file ws book)) → is ≡ sheet_file ws book ++ drop (length (sheet_file ws book)) was → Writes ws book was r is

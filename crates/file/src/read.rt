@@ -1,6 +1,6 @@
 // Reading a sheet file: its windows become words, its rules stay the bytes that they are.
 ghost use Rattle.std.specs.Prelude.{◌≡◌, ◌+◌, ◌*◌, ◌≤◌, length, take, drop, MatchResult};
-ghost use Rattle.std.specs.List.{AllByRecursion as All};
+ghost use Rattle.std.specs.List.{AllByRecursion};
 ghost use Rattle.store.specs.Pairs.{paired};
 ghost use Rattle.file.specs.Format.{lot_bytes, lots_bytes, SmallLot};
 ghost use Rattle.file.specs.Reads.{Reads, Ends, lots_in, rules_in, place_in};
@@ -75,7 +75,7 @@ fn read_lots(file: &[u8], lots: usize, words: &mut [u32])
     requires there { 4 * lots ≤ length file.now }
     requires room { 2 * lots ≤ length words.old }
     ensures lots { lots_bytes (paired (take (2 * lots) words.new)) ≡ take (4 * lots) file.now }
-    ensures small { All SmallLot (paired (take (2 * lots) words.new)) }
+    ensures small { AllByRecursion SmallLot (paired (take (2 * lots) words.new)) }
     ensures rest { drop (2 * lots) words.new ≡ drop (2 * lots) words.old }
 {
     for lot in 0..lots {

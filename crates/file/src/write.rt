@@ -1,6 +1,6 @@
 // Writing a sheet file: the windows of a store and the rules of a book.
 ghost use Rattle.std.specs.Prelude.{◌≡◌, ◌+◌, ◌*◌, ◌<◌, ◌≤◌, length, take};
-ghost use Rattle.std.specs.List.{AllByRecursion as All};
+ghost use Rattle.std.specs.List.{AllByRecursion};
 ghost use Rattle.store.specs.Pairs.{paired};
 ghost use Rattle.store.specs.Sound.{Sound};
 ghost use Rattle.sheet.specs.Books.{rules_of, lots_of, rule_at};
@@ -55,7 +55,7 @@ pub fn write<S: WindowStore>(book: &Book, store: &S, bytes: &mut [u8]) -> Result
 
 fn write_lots(words: &[u32], lots: usize, bytes: &mut [u8])
     requires there { 2 * lots ≤ length words.now }
-    requires sound { All Sound (take lots (paired words.now)) }
+    requires sound { AllByRecursion Sound (take lots (paired words.now)) }
     requires room { 4 * lots ≤ length bytes.old }
     ensures { bytes.new ≡ over bytes.old 0 (lots_bytes (take lots (paired words.now))) }
 {

@@ -1,6 +1,6 @@
 -- The rules of a book fit its lots.
 use Rattle.std.proofs.Common.{◌≡◌, ℕ, ◌<◌, ◌≤◌, length, sym, subst, arith}
-use Rattle.std.specs.List.{AllByRecursion as All}
+use Rattle.std.specs.List.{AllByRecursion}
 use Rattle.std.proofs.ByRecursion.{All-from_get_or}
 use Rattle.sheet.specs.declared.book.Book.{Book}
 use Rattle.sheet.specs.declared.rule.Rule.{Rule}
@@ -20,5 +20,5 @@ plain_fits book k u h e = subst (Fits (lots_of book)) (sym e) (rule_fits book k 
 pub rules_few : (book : Book) → length (rules_of book) ≤ 32
 rules_few book = omega (arith, rules_length book, book.few)
 
-pub rules_ordered : (book : Book) → All (λ r. r.floor ≤ r.ceiling) (rules_of book)
+pub rules_ordered : (book : Book) → AllByRecursion (λ r. r.floor ≤ r.ceiling) (rules_of book)
 rules_ordered book = All-from_get_or (λ r. r.floor ≤ r.ceiling) (rules_of book) (row 0 0 0 0) (λ k h. (rule_fits book k h).2)

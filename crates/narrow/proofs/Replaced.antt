@@ -1,7 +1,7 @@
 -- Windows of which a stretch was lent and written.
 use Rattle.std.proofs.Common.{◌≡◌, ℕ, ◌+◌, ◌<◌, ◌≤◌, ◌⊎◌, List, ◌++◌, length, take, drop, Some, None, Option, sym, ap, ◌∙◌, subst, inl, inr, arith, rules, MatchOption}
 use borrow.Rule.Slice.PartMut.{put_mid}
-use Rattle.std.specs.List.{AllByRecursion as All}
+use Rattle.std.specs.List.{AllByRecursion}
 use Rattle.std.proofs.ByRecursion.{All-drop, All-get_or, All-take}
 use Rattle.std.proofs.lemmas.List.{drop_at, length-drop, length-take, length-take-le, places, take_at}
 use Rattle.store.specs.declared.window.Window.{Window}
@@ -15,7 +15,7 @@ use Rattle.count.specs.declared.fault.CountFault.{CountFault}
 use Rattle.tight.specs.Tight.{Tightest}
 
 -- a stretch of a few sound windows is fit for every question
-pub never_unfit : (ws : List Window) (first m : ℕ) (e : CountFault) → length ws ≤ 256 → All Sound ws → Unfit (take m (drop first ws)) e → ⊥
+pub never_unfit : (ws : List Window) (first m : ℕ) (e : CountFault) → length ws ≤ 256 → AllByRecursion Sound ws → Unfit (take m (drop first ws)) e → ⊥
 never_unfit ws first m e few sound (too_many h s) = omega (arith, length-take m (drop first ws), length-drop first ws)
 never_unfit ws first m e few sound (faulty_one p h f s) = f.faulty (All-get_or Sound (take m (drop first ws)) p (window 0 0) f.there (All-take Sound m (drop first ws) (All-drop Sound first ws sound)))
 

@@ -1,6 +1,6 @@
 -- One rule made firm: the new windows and count windows lie inside the old, no firm ones are lost, and rules elsewhere stay as firm as they were.
 use Rattle.std.proofs.Common.{◌≡◌, ℕ, ◌+◌, ◌-◌, ◌<◌, ◌≤◌, ◌⊎◌, List, length, get_or, set, sym, refl, ap, ◌∙◌, subst, inl, inr, arith}
-use Rattle.std.specs.List.{AllByRecursion as All}
+use Rattle.std.specs.List.{AllByRecursion}
 use Rattle.std.proofs.lemmas.List.Elements.{AllZip-get_or, length_all_zip}
 use Rattle.std.proofs.ByRecursion.{All-from_get_or, All-get_or}
 use Rattle.std.proofs.lemmas.List.{get_or-set_other, get_or-set_same, length-set}
@@ -103,7 +103,7 @@ module _ (ws is : List Window) (rules : List Row) (k least most : ℕ) (there : 
         (omega (arith, n.0, ap (λ w. w.low) e, ap (λ w. w.low) f), omega (arith, n.1, ap (λ w. w.high) e, ap (λ w. w.high) f))
   ]
 
-  sound_now : All Sound ws → All Sound is
+  sound_now : AllByRecursion Sound ws → AllByRecursion Sound is
   sound_now s =
       All-from_get_or Sound is (window 0 0) (λ i h.
       let was = All-get_or Sound ws i (window 0 0) (omega arith) s in
@@ -194,7 +194,7 @@ module _ (ws is : List Window) (rules : List Row) (k least most : ℕ) (there : 
             ]);
       }
 
-  pub stepped : All Sound ws → (counts : List Row) → counts ≡ set rules k (recounted (rule_at rules k) least most) → Stepped ws rules k is counts
+  pub stepped : AllByRecursion Sound ws → (counts : List Row) → counts ≡ set rules k (recounted (rule_at rules k) least most) → Stepped ws rules k is counts
   unfolding now_rules
   stepped s counts e =
       subst (Stepped ws rules k is) (sym e) (record {

@@ -1,6 +1,6 @@
 -- A rule of a book whose windows were tightened takes the tightest count window, and is firm then.
 use Rattle.std.proofs.Common.{◌≡◌, ℕ, ◌+◌, ◌<◌, ◌≤◌, Bool, true, ◌⊎◌, List, length, subst, inl, inr, arith}
-use Rattle.std.specs.List.{AllByRecursion as All}
+use Rattle.std.specs.List.{AllByRecursion}
 use Rattle.store.specs.declared.window.Window.{Window}
 use Rattle.store.specs.Sound.{Sound}
 use Rattle.store.specs.Windows.{window_at}
@@ -21,7 +21,7 @@ abbrev Tightens : List Window → List Window → ℕ → ℕ → Row → Type 0
 Tightens ws is least most q =
     ((i : ℕ) → (i < q.first) ⊎ (q.first + q.length ≤ i) → window_at is i ≡ window_at ws i) × Tightest (stretch q ws) q.floor q.ceiling (stretch q is) least most
 
-took : (was now : Book) (ws is : List Window) (k least most : ℕ) (r : Bool) → k < length (rules_of was) → length ws ≡ lots_of was → length is ≡ length ws → All Sound ws
+took : (was now : Book) (ws is : List Window) (k least most : ℕ) (r : Bool) → k < length (rules_of was) → length ws ≡ lots_of was → length is ≡ length ws → AllByRecursion Sound ws
     → Tightens ws is least most (rule_at (rules_of was) k) → Narrows was k least most r now → (r ≡ true) × Stepped ws (rules_of was) k is (rules_of now) × (lots_of now ≡ lots_of was)
 took was now ws is k least most r there lots long sound t (no_such_rule h a b) = absurd (omega arith)
 took was now ws is k least most r there lots long sound t (looser h o a b) =
@@ -32,7 +32,7 @@ took was now ws is k least most r there lots long sound t (narrowed h f c a b e)
     (a, stepped ws is (rules_of was) k least most there long (omega (arith, (rule_fits was k there).1)) t.0 t.1 sound (rules_of now) e, b)
 
 -- the same from the rule that was read
-pub takes : (was now : Book) (ws is : List Window) (k least most : ℕ) (r : Bool) (q : Row) → k < length (rules_of was) → q ≡ rule_at (rules_of was) k → length ws ≡ lots_of was → length is ≡ length ws → All Sound ws
+pub takes : (was now : Book) (ws is : List Window) (k least most : ℕ) (r : Bool) (q : Row) → k < length (rules_of was) → q ≡ rule_at (rules_of was) k → length ws ≡ lots_of was → length is ≡ length ws → AllByRecursion Sound ws
     → ((i : ℕ) → (i < q.first) ⊎ (q.first + q.length ≤ i) → window_at is i ≡ window_at ws i) → Tightest (stretch q ws) q.floor q.ceiling (stretch q is) least most
     → Narrows was k least most r now → (r ≡ true) × Stepped ws (rules_of was) k is (rules_of now) × (lots_of now ≡ lots_of was)
 takes was now ws is k least most r q there e lots long sound outside tight = took was now ws is k least most r there lots long sound (subst (Tightens ws is least most) e (outside, tight))

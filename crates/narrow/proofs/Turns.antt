@@ -1,6 +1,6 @@
 -- The turns of the fixpoint: what stays true from one to the next, and what it gives at the end.
 use Rattle.std.proofs.Common.{◌≡◌, ℕ, ◌<◌, ◌≤◌, Bool, true, false, List, length, get_or, set, sym, ◌∙◌, subst, inl, inr, arith}
-use Rattle.std.specs.List.{AllByRecursion as All}
+use Rattle.std.specs.List.{AllByRecursion}
 use Rattle.std.proofs.lemmas.List.Elements.{length_all_zip}
 use Rattle.std.proofs.ByRecursion.{All-from_get_or, All-weaker}
 use Rattle.std.proofs.lemmas.List.{get_or-set_other}
@@ -21,12 +21,12 @@ Clean ws rules due = (q : ℕ) → q < length rules → get_or due q true ≡ fa
 
 -- the present windows and count windows lie inside those at the start, and no firm ones are lost
 pub record Narrowing (ws : List Window) (rules : List Row) (is : List Window) (counts : List Row) (due : List Bool) : Type 0 where
-  pub sound : All Sound is
+  pub sound : AllByRecursion Sound is
   pub inside : Inside is counts ws rules
   pub keeps : KeepsFirm ws rules is counts
   pub clean : Clean is counts due
 
-pub narrowing_starts : (ws : List Window) (rules : List Row) (due : List Bool) → All Sound ws → Clean ws rules due → Narrowing ws rules ws rules due
+pub narrowing_starts : (ws : List Window) (rules : List Row) (due : List Bool) → AllByRecursion Sound ws → Clean ws rules due → Narrowing ws rules ws rules due
 narrowing_starts ws rules due sound clean = record { sound = sound; inside = inside_refl ws rules; keeps = λ vs qs firm inside. inside; clean = clean }
 
 -- a rule that was not due, and of which no window moved, is firm still
@@ -49,7 +49,7 @@ narrowing_turns ws rules is counts due k os rows marked n s marks = record {
 
 -- no rule is due
 pub narrowing_ends : (ws : List Window) (rules : List Row) (is : List Window) (counts : List Row) (due : List Bool)
-    → Narrowing ws rules is counts due → All (λ r. r.floor ≤ r.ceiling) counts → ((q : ℕ) → q < length counts → get_or due q true ≡ false) → GreatestFirm ws rules is counts
+    → Narrowing ws rules is counts due → AllByRecursion (λ r. r.floor ≤ r.ceiling) counts → ((q : ℕ) → q < length counts → get_or due q true ≡ false) → GreatestFirm ws rules is counts
 narrowing_ends ws rules is counts due n ordered none = record {
   firm = record {
     days = All-weaker Sound (λ w. w.low ≤ w.high) (λ w s. s.0) is n.sound;

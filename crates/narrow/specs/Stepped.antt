@@ -1,6 +1,6 @@
 -- What it does to windows and count windows to make one rule firm.
 use Rattle.std.specs.Prelude.{◌≡◌, ℕ, List, ◌≢◌}
-use Rattle.std.specs.List.{AllByRecursion as All}
+use Rattle.std.specs.List.{AllByRecursion}
 use Rattle.store.specs.declared.window.Window.{Window}
 use Rattle.store.specs.Sound.{Sound}
 use Rattle.rules.specs.declared.row.Row.{Row}
@@ -13,7 +13,7 @@ KeepsFirm ws rules is counts = (vs : List Window) (qs : List Row) → Firm vs qs
 
 -- the rule with a number is firm at windows and count windows inside those before; no firm ones are lost, and the other rules keep their rows
 pub record Stepped (ws : List Window) (rules : List Row) (number : ℕ) (is : List Window) (counts : List Row) : Type 0 where
-  pub sound : All Sound is
+  pub sound : AllByRecursion Sound is
   pub inside : Inside is counts ws rules
   pub keeps : KeepsFirm ws rules is counts
   pub firm : FirmRule is (rule_at counts number)

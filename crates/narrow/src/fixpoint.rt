@@ -1,6 +1,6 @@
 // The fixpoint over all rules: rules are made firm one by one, and looked at again where a window of theirs moved, until every rule is firm.
 ghost use Rattle.std.specs.Prelude.{◌≡◌, ℕ, ◌<◌, ◌≤◌, true, false, length, replicate, ◌≢◌, slice_index_or};
-ghost use Rattle.std.specs.List.{AllByRecursion as All};
+ghost use Rattle.std.specs.List.{AllByRecursion};
 ghost use Rattle.store.specs.Sound.{Sound};
 ghost use Rattle.rules.specs.Firm.{FirmRule, GreatestFirm, NoFirm};
 ghost use Rattle.rules.specs.Plans.{stretch};
@@ -16,9 +16,9 @@ use store::window::Window;
 pub fn narrow_all(windows: &mut [Window], book: &mut Book) -> bool
     requires lots { length windows.old ≡ lots_of book.old }
     requires few { length windows.old ≤ 256 }
-    requires sound { All Sound windows.old }
+    requires sound { AllByRecursion Sound windows.old }
     ensures firm { result ≡ true → GreatestFirm windows.old (rules_of book.old) windows.new (rules_of book.new) }
-    ensures sound { result ≡ true → All Sound windows.new }
+    ensures sound { result ≡ true → AllByRecursion Sound windows.new }
     ensures none { result ≡ false → NoFirm windows.old (rules_of book.old) }
     ensures lots { lots_of book.new ≡ lots_of book.old }
 {
@@ -37,11 +37,11 @@ fn all_due() -> [bool; 32]
 pub fn narrow(windows: &mut [Window], book: &mut Book, due: &mut [bool]) -> bool
     requires lots { length windows.old ≡ lots_of book.old }
     requires few { length windows.old ≤ 256 }
-    requires sound { All Sound windows.old }
+    requires sound { AllByRecursion Sound windows.old }
     requires flags { length due.old ≡ 32 }
     requires clean { (k : ℕ) → k < length (rules_of book.old) → slice_index_or due.old k true ≡ false → FirmRule windows.old (rule_at (rules_of book.old) k) }
     ensures firm { result ≡ true → GreatestFirm windows.old (rules_of book.old) windows.new (rules_of book.new) }
-    ensures sound { result ≡ true → All Sound windows.new }
+    ensures sound { result ≡ true → AllByRecursion Sound windows.new }
     ensures none { result ≡ false → NoFirm windows.old (rules_of book.old) }
     ensures lots { lots_of book.new ≡ lots_of book.old }
 {
@@ -58,7 +58,7 @@ pub fn narrow(windows: &mut [Window], book: &mut Book, due: &mut [bool]) -> bool
 fn turn(windows: &mut [Window], book: &mut Book, number: usize, due: &mut [bool]) -> bool
     requires lots { length windows.old ≡ lots_of book.old }
     requires few { length windows.old ≤ 256 }
-    requires sound { All Sound windows.old }
+    requires sound { AllByRecursion Sound windows.old }
     requires there { number < length (rules_of book.old) }
     requires flags { length due.old ≡ 32 }
     ensures stepped { result ≡ true → Stepped windows.old (rules_of book.old) number windows.new (rules_of book.new) }

@@ -1,6 +1,6 @@
 // Making one rule firm: the tightest windows of its stretch, and its tightest count window.
 ghost use Rattle.std.specs.Prelude.{◌≡◌, ℕ, ◌+◌, ◌<◌, ◌≤◌, true, false, ◌⊎◌, List, length, MatchOption};
-ghost use Rattle.std.specs.List.{AllByRecursion as All};
+ghost use Rattle.std.specs.List.{AllByRecursion};
 ghost use Rattle.store.specs.Sound.{Sound};
 ghost use Rattle.store.specs.Windows.{window_at};
 ghost use Rattle.nvalue.specs.Choices.{Choice, part};
@@ -20,7 +20,7 @@ use tight::tight::tighten;
 fn tighten_stretch(windows: &mut [Window], rule: Rule) -> Option<CountWindow>
     requires within { rule.stretch.first + rule.stretch.length ≤ length windows.old }
     requires few { length windows.old ≤ 256 }
-    requires sound { All Sound windows.old }
+    requires sound { AllByRecursion Sound windows.old }
     ensures outside { (i : ℕ) → (i < rule.stretch.first) ⊎ (rule.stretch.first + rule.stretch.length ≤ i) → window_at windows.new i ≡ window_at windows.old i }
     ensures tight { MatchOption result ((ds : List ℕ) → Choice (part windows.old rule.stretch.first rule.stretch.length) ds → Counts rule.count.floor rule.count.ceiling ds → ⊥) (λ t. Tightest (part windows.old rule.stretch.first rule.stretch.length) rule.count.floor rule.count.ceiling (part windows.new rule.stretch.first rule.stretch.length) t.floor t.ceiling) }
 {
@@ -36,7 +36,7 @@ fn tighten_stretch(windows: &mut [Window], rule: Rule) -> Option<CountWindow>
 pub(crate) fn tighten_rule(windows: &mut [Window], book: &mut Book, number: usize) -> bool
     requires lots { length windows.old ≡ lots_of book.old }
     requires few { length windows.old ≤ 256 }
-    requires sound { All Sound windows.old }
+    requires sound { AllByRecursion Sound windows.old }
     requires there { number < length (rules_of book.old) }
     ensures stepped { result ≡ true → Stepped windows.old (rules_of book.old) number windows.new (rules_of book.new) }
     ensures none { result ≡ false → NoFirm windows.old (rules_of book.old) }

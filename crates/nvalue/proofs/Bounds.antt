@@ -1,6 +1,6 @@
 -- Bounds on the number of different values: by index, by windows that share no day, and by crowded runs.
 use Rattle.std.proofs.Common.{◌≡◌, ℕ, zero, suc, ◌+◌, ◌-◌, ◌<◌, ◌≤◌, cond, ◌&&◌, leb, List, [], ◌∷◌, ◌++◌, map, length, get_or, sym, refl, ◌∙◌, subst, zero-add, arith}
-use Rattle.std.specs.List.{range_with_len, ContainsAt as Has, flat_map, AllByRecursion as All}
+use Rattle.std.specs.List.{range_with_len, ContainsAt as Has, flat_map, AllByRecursion}
 use Rattle.std.proofs.lemmas.List.FromFn.{get_or-range_with_len, get_or-map-range_with_len, length-range_with_len, length-map-range_with_len}
 use Rattle.std.proofs.ByRecursion.{All-get_or, has_get_or}
 use Rattle.std.proofs.lemmas.List.{get_or-map, length-append, length-map}
@@ -40,7 +40,7 @@ disjoint_at ws (x ∷ xs) (u, us) zero (suc j) l b =
 disjoint_at ws (x ∷ xs) (u, us) (suc i) (suc j) l b = disjoint_at ws xs us i j (omega arith) (omega arith)
 
 -- lots whose windows share no day have different days
-pub disjoint_bound : (ws : List Window) (ds lots : List ℕ) → Choice ws ds → All (λ lot. lot < length ws) lots → Disjoint (map (window_at ws) lots) → length lots ≤ nvalue ds
+pub disjoint_bound : (ws : List Window) (ds lots : List ℕ) → Choice ws ds → AllByRecursion (λ lot. lot < length ws) lots → Disjoint (map (window_at ws) lots) → length lots ≤ nvalue ds
 disjoint_bound ws ds lots c b u =
     let there : (i : ℕ) → i < length lots → get_or lots i 0 < length ws = λ i l. All-get_or (λ lot. lot < length ws) lots i 0 l b in
     let day : (i : ℕ) → i < length lots → In (window_at ws (get_or lots i 0)) (get_or ds (get_or lots i 0) 0) = λ i l. choice_get_or ws ds c (get_or lots i 0) (there i l) in
@@ -77,7 +77,7 @@ has_run run d l h =
     has_from d _ (d - run.low, rw length-range_with_len k, λ e. get_or-range_with_len run.low (size run) (d - run.low) e k ∙ omega arith)
 
 -- a window with a day of one run lies in no run that shares no day with it
-covers_none : (run : Window) (runs : List Window) (w : Window) (d : ℕ) → All (ShareNoDay run) runs → In run d → In w d → covers runs w ≡ 0
+covers_none : (run : Window) (runs : List Window) (w : Window) (d : ℕ) → AllByRecursion (ShareNoDay run) runs → In run d → In w d → covers runs w ≡ 0
 covers_none run [] w d u h b = refl
 covers_none run (r ∷ runs) w d (u, us) h b = grind (arith, nat_tests, covers_none run runs w d us h b, u d h)
 
@@ -105,11 +105,11 @@ loads_bound runs (w ∷ ws) (d ∷ ds) (b, c) u =
     grind (arith, nat_tests, loads_bound runs ws ds c u, loads_more runs w ws, covers_le_has runs w d u b, has_append d ds (days runs), has_le_one)
 
 -- the surpluses of crowded runs are their loads less their sizes
-surplus_loads : (ws runs : List Window) → All (Crowded ws) runs → surplus ws runs + room runs ≡ loads runs ws
+surplus_loads : (ws runs : List Window) → AllByRecursion (Crowded ws) runs → surplus ws runs + room runs ≡ loads runs ws
 surplus_loads ws [] c = refl
 surplus_loads ws (run ∷ runs) (c, cs) = omega (arith, surplus_loads ws runs cs)
 
 -- crowded runs that share no day: at most as many different days as lots, less the surpluses
-pub crowded_bound : (ws runs : List Window) (ds : List ℕ) → Choice ws ds → Disjoint runs → All (Crowded ws) runs → nvalue ds + surplus ws runs ≤ length ws
+pub crowded_bound : (ws runs : List Window) (ds : List ℕ) → Choice ws ds → Disjoint runs → AllByRecursion (Crowded ws) runs → nvalue ds + surplus ws runs ≤ length ws
 crowded_bound ws runs ds c u o =
     omega (arith, nvalue_mono ds (ds ++ days runs) (within_append ds (days runs)), loads_bound runs ws ds c u, surplus_loads ws runs o)

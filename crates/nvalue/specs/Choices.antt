@@ -1,6 +1,6 @@
 -- What a choice of days is, and what shows that no choice has fewer or more different days.
 use Rattle.std.specs.Prelude.{ℕ, suc, ◌+◌, ◌-◌, ◌<◌, ◌≤◌, cond, ◌&&◌, List, [], ◌∷◌, take, drop, nat_le}
-use Rattle.std.specs.List.{AllByRecursion as All}
+use Rattle.std.specs.List.{AllByRecursion}
 use Rattle.store.specs.declared.window.Window.{Window}
 
 -- a day lies inside a window, both ends included
@@ -25,7 +25,7 @@ ShareNoDay v w = (d : ℕ) → In v d → In w d → ⊥
 -- no two windows of a list share a day
 abbrev pub Disjoint : List Window → Type 0
 Disjoint [] = Unit {0}
-Disjoint (w ∷ ws) = All (ShareNoDay w) ws × Disjoint ws
+Disjoint (w ∷ ws) = AllByRecursion (ShareNoDay w) ws × Disjoint ws
 
 -- how many days a run has, first and last included
 abbrev pub size : Window → ℕ

@@ -1,6 +1,6 @@
 -- The laws of counting, each as a statement that some function's contract names.
 use Rattle.std.specs.Prelude.{◌≡◌, ℕ, ◌+◌, ◌<◌, ◌≤◌, List, map, length, slice_index, slice_set}
-use Rattle.std.specs.List.{AllByRecursion as All}
+use Rattle.std.specs.List.{AllByRecursion}
 use Rattle.store.specs.declared.window.Window.{Window}
 use Rattle.store.specs.Windows.{window_at}
 use Rattle.nvalue.specs.Choices.{Choice, Disjoint, Crowded, surplus}
@@ -23,9 +23,9 @@ CountsBetweenAreCounts =
 -- lots whose windows share no day pairwise: every choice has at least as many different days
 abbrev pub DisjointWindowsBoundBelow : Type 0
 DisjointWindowsBoundBelow =
-    (ws : List Window) (ds lots : List ℕ) → Choice ws ds → All (λ lot. lot < length ws) lots → Disjoint (map (window_at ws) lots) → length lots ≤ nvalue ds
+    (ws : List Window) (ds lots : List ℕ) → Choice ws ds → AllByRecursion (λ lot. lot < length ws) lots → Disjoint (map (window_at ws) lots) → length lots ≤ nvalue ds
 
 -- crowded runs that share no day: every choice has at most as many different days as lots, less the surpluses
 abbrev pub CrowdedRunsBoundAbove : Type 0
 CrowdedRunsBoundAbove =
-    (ws runs : List Window) (ds : List ℕ) → Choice ws ds → Disjoint runs → All (Crowded ws) runs → nvalue ds + surplus ws runs ≤ length ws
+    (ws runs : List Window) (ds : List ℕ) → Choice ws ds → Disjoint runs → AllByRecursion (Crowded ws) runs → nvalue ds + surplus ws runs ≤ length ws

@@ -1,6 +1,6 @@
 -- Copying windows onto a page, looking for a faulty one, and a page that was put away.
 use Rattle.std.proofs.Common.{◌≡◌, ℕ, ◌+◌, ◌<◌, ◌≤◌, List, [], ◌∷◌, ◌++◌, length, get_or, take, drop, set, sym, ap, ◌∙◌, subst, arith}
-use Rattle.std.specs.List.{AllByRecursion as All}
+use Rattle.std.specs.List.{AllByRecursion}
 use Rattle.std.proofs.ByRecursion.{All-from_get_or}
 use Rattle.std.proofs.lemmas.List.{drop_at, get_or_append_left, get_or-take, length-take-le, take_more, take_more_set}
 use Rattle.store.specs.declared.window.Window.{Window}
@@ -17,7 +17,7 @@ module _ (page : List Window) (lots : ℕ) (fits : lots ≤ length page) where
   at : (k : ℕ) → k < lots → window_at (take lots page) k ≡ window_at page k
   at k h = get_or-take lots page k (window 0 0) h
 
-  pub all_sound : ((k : ℕ) → k < lots → Sound (window_at page k)) → All Sound (take lots page)
+  pub all_sound : ((k : ℕ) → k < lots → Sound (window_at page k)) → AllByRecursion Sound (take lots page)
   all_sound s =
       All-from_get_or Sound (take lots page) (window 0 0) (λ k h.
       let b : k < lots = omega (arith, length-take-le lots page fits) in

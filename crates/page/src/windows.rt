@@ -1,6 +1,6 @@
 // Windows on a page of words, where low and high of each lot stand in turn: copied from a store, and looked through for a faulty one.
 ghost use Rattle.std.specs.Prelude.{◌≡◌, ◌+◌, ◌*◌, ◌<◌, ◌≤◌, length, take, MatchOption, slice_set};
-ghost use Rattle.std.specs.List.{AllByRecursion as All};
+ghost use Rattle.std.specs.List.{AllByRecursion};
 ghost use Rattle.store.specs.Pairs.{paired};
 ghost use Rattle.store.specs.Sound.{FirstFaulty, Sound};
 ghost use Rattle.store.specs.Windows.{window_at};
@@ -52,7 +52,7 @@ fn copy_window<S: WindowStore>(store: &S, lot: usize, page: &mut [u32])
 // The first lot on the page whose window is empty or has a day above 9,999.
 pub fn first_faulty(page: &[u32], lots: usize) -> Option<usize>
     requires { 2 * lots ≤ length page.now }
-    ensures { MatchOption result (All Sound (take lots (paired page.now))) (FirstFaulty (take lots (paired page.now))) }
+    ensures { MatchOption result (AllByRecursion Sound (take lots (paired page.now))) (FirstFaulty (take lots (paired page.now))) }
 {
     for lot in 0..lots {
         let w = window_in(page, lot);

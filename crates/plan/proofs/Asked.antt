@@ -1,6 +1,6 @@
 -- What an ask does to the plans: a window or a count window that was narrowed keeps just the plans that meet the ask.
 use Rattle.std.proofs.Common.{◌≡◌, ℕ, zero, suc, ◌<◌, ◌≤◌, min, max, ◌⊎◌, List, [], ◌∷◌, length, get_or, set, Ok, Err, Result, sym, refl, ap, ◌∙◌, subst, inl, inr, arith}
-use Rattle.std.specs.List.{AllZip, AllByRecursion as All}
+use Rattle.std.specs.List.{AllZip, AllByRecursion}
 use Rattle.std.proofs.lemmas.List.Elements.{AllZip-get_or, length_all_zip}
 use Rattle.std.proofs.ByRecursion.{All-get_or, All-set}
 use Rattle.std.proofs.lemmas.List.{get_or_past, get_or-set_same, get_or-set_other, length-set, set-get_or, set_past, set-set}
@@ -53,15 +53,15 @@ plan_at ws rules ds i b p = choice_get_or ws ds p.choice i b
 
 -- a rule replaced keeps what keeps the new one
 module _ (rules : List Row) (k : ℕ) (q : Row) (there : k < length rules) (ds : List ℕ) where
-  pub keeps_put : All (Keeps ds) rules → Keeps ds q → All (Keeps ds) (set rules k q)
+  pub keeps_put : AllByRecursion (Keeps ds) rules → Keeps ds q → AllByRecursion (Keeps ds) (set rules k q)
   keeps_put a h = All-set (Keeps ds) rules k q h a
 
-  pub keeps_at : All (Keeps ds) (set rules k q) → Keeps ds q
+  pub keeps_at : AllByRecursion (Keeps ds) (set rules k q) → Keeps ds q
   keeps_at a = subst (Keeps ds) (get_or-set_same rules k q (row 0 0 0 0) there) (All-get_or (Keeps ds) (set rules k q) k (row 0 0 0 0) (omega (arith, length-set rules k q)) a)
 
-  pub keeps_back : All (Keeps ds) (set rules k q) → Keeps ds (rule_at rules k) → All (Keeps ds) rules
+  pub keeps_back : AllByRecursion (Keeps ds) (set rules k q) → Keeps ds (rule_at rules k) → AllByRecursion (Keeps ds) rules
   keeps_back a h =
-      subst (All (Keeps ds)) (set-set rules k q (rule_at rules k) ∙ set-get_or rules k (row 0 0 0 0)) (All-set (Keeps ds) (set rules k q) k (rule_at rules k) h a)
+      subst (AllByRecursion (Keeps ds)) (set-set rules k q (rule_at rules k) ∙ set-get_or rules k (row 0 0 0 0)) (All-set (Keeps ds) (set rules k q) k (rule_at rules k) h a)
 
 -- the rule with a number is kept by a plan
 pub plan_rule : (ws : List Window) (rules : List Row) (ds : List ℕ) (k : ℕ) → k < length rules → Plan ws rules ds → Keeps ds (rule_at rules k)

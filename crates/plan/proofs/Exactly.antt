@@ -1,6 +1,6 @@
 -- A "none" comes exactly where there is none: each outcome excludes the others.
 use Rattle.std.proofs.Common.{◌≡◌, ℕ, ◌≤◌, List, ◌++◌, length, drop, Ok, Err, Result, sym, refl, ◌∙◌, arith}
-use Rattle.std.specs.List.{AllByRecursion as All}
+use Rattle.std.specs.List.{AllByRecursion}
 use Rattle.std.proofs.ByRecursion.{All-get_or}
 use Rattle.store.specs.declared.window.Window.{Window}
 use Rattle.store.specs.Sound.{Sound}

@@ -1,6 +1,6 @@
 -- The plans that calls leave: one call, and lists of calls.
 use Rattle.std.proofs.Common.{◌≡◌, ℕ, ◌<◌, ◌≤◌, min, max, List, [], ◌∷◌, ◌++◌, length, get_or, set, Ok, Err, Result, sym, refl, ap, ◌∙◌, subst, arith}
-use Rattle.std.specs.List.{AllByRecursion as All}
+use Rattle.std.specs.List.{AllByRecursion}
 use Rattle.store.specs.declared.fault.StoreFault.{StoreFault}
 use Rattle.store.specs.declared.window.Window.{Window}
 use Rattle.store.specs.Windows.{window, window_at, Raises, Lowers, no_such_lot, stays, would_empty, moves}
@@ -94,12 +94,12 @@ left_count {tightened = tightened} c rule slip was is ws r to from (asks.AsksCou
     let T : Result (Unit {0}) SheetFault → Type 0 = λ x. Left ws rules ws (rules_of is) (λ ds. MeetsIf rules ds c (Asked x)) in
     subst T (sym e) (λ ds. (
       λ p.
-          let kept = subst (All (Keeps ds)) same p.keeps in
+          let kept = subst (AllByRecursion (Keeps ds)) same p.keeps in
           let both = to ds (keeps_at rules rule q b ds kept) in
           (record { choice = p.choice; keeps = keeps_back rules rule q b ds kept both.0 }, both.1),
       λ m.
           let new = from ds (plan_rule ws rules ds rule b m.0) m.1 in
-          record { choice = m.0.choice; keeps = subst (All (Keeps ds)) (sym same) (keeps_put rules rule q b ds m.0.keeps new) },
+          record { choice = m.0.choice; keeps = subst (AllByRecursion (Keeps ds)) (sym same) (keeps_put rules rule q b ds m.0.keeps new) },
     ))
 
 -- asks for a count leave the stretches

@@ -1,6 +1,6 @@
 // Plan: the earliest plan of a sheet.
 ghost use Rattle.std.specs.Prelude.{◌≡◌, ℕ, ◌<◌, ◌≤◌, length, slice_index};
-ghost use Rattle.std.specs.List.{AllByRecursion as All};
+ghost use Rattle.std.specs.List.{AllByRecursion};
 ghost use Rattle.store.specs.Sound.{Sound};
 ghost use Rattle.page.specs.Cleared.{Cleared};
 ghost use Rattle.sheet.specs.Books.{lots_of};
@@ -58,7 +58,7 @@ fn plan_on<S: WindowStore>(
 fn plan_copied(windows: &[Window], book: &Book, answer: &mut [u32]) -> Result<usize, SheetFault>
     requires lots { length windows.now ≡ lots_of book.now }
     requires few { length windows.now ≤ 256 }
-    requires sound { All Sound windows.now }
+    requires sound { AllByRecursion Sound windows.now }
     ensures { (work : ℕ) (slip : Closed) → Ready work slip book.now windows.now → Planned work slip windows.now book.now answer.old result answer.new }
 {
     let lots = windows.len();

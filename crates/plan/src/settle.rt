@@ -1,6 +1,6 @@
 // Settle: narrows a sheet to the greatest firm windows and count windows inside its own.
 ghost use Rattle.std.specs.Prelude.{◌≡◌, ℕ, ◌<◌, ◌≤◌, length, slice_index, slice_set};
-ghost use Rattle.std.specs.List.{AllZip, AllByRecursion as All};
+ghost use Rattle.std.specs.List.{AllZip, AllByRecursion};
 ghost use Rattle.store.specs.Sound.{Sound};
 ghost use Rattle.store.specs.Windows.{window_at};
 ghost use Rattle.rules.specs.Firm.{Narrower};
@@ -66,7 +66,7 @@ fn settle_copied<S: WindowStore>(
     requires copied { windows.old ≡ S.WindowStore.windows store.old }
     requires lots { length windows.old ≡ lots_of book.old }
     requires few { length windows.old ≤ 256 }
-    requires sound { All Sound windows.old }
+    requires sound { AllByRecursion Sound windows.old }
     ensures settles { (work : ℕ) (slip : Closed) → Ready work slip book.old (S.WindowStore.windows store.old) → Settles work slip (S.WindowStore.windows store.old) book.old result (S.WindowStore.windows store.new) book.new }
     ensures still { S.WindowStore.windows store.new ≡ S.WindowStore.windows store.old → store.new ≡ store.old }
     ensures framed { S.WindowStore.frame store.new ≡ S.WindowStore.frame store.old }
@@ -83,7 +83,7 @@ fn settle_copied<S: WindowStore>(
 // Moves the ends of a store's windows to those of windows that lie inside them.
 fn put_windows<S: WindowStore>(store: &mut S, windows: &[Window])
     requires inside { AllZip Narrower windows.now (S.WindowStore.windows store.old) }
-    requires sound { All Sound windows.now }
+    requires sound { AllByRecursion Sound windows.now }
     ensures moved { S.WindowStore.windows store.new ≡ windows.now }
     ensures still { windows.now ≡ S.WindowStore.windows store.old → store.new ≡ store.old }
     ensures framed { S.WindowStore.frame store.new ≡ S.WindowStore.frame store.old }

@@ -39,7 +39,10 @@ fn refused_calls_change_nothing(rt: HostRuntime) -> Result<(), Fail> {
     assert!(rt; outcomes.len() == 8);
     assert_eq!(rt;
         outcomes[0],
-        Outcome::Asked(Err(SheetFault::Store(StoreRefusal { lot: 0, fault: StoreFault::WouldEmpty })))
+        Outcome::Asked(Err(SheetFault::Store(StoreRefusal {
+            lot: 0,
+            fault: StoreFault::WouldEmpty
+        })))
     );
     assert_eq!(rt; outcomes[1], Outcome::Asked(Err(SheetFault::NoSuchDay)));
     assert_eq!(rt;

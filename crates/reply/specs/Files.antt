@@ -1,6 +1,6 @@
 -- What planning a sheet file gives: the first refusal on the way, or the earliest plan of the file's lots and rules.
 use Rattle.std.specs.Prelude.{◌≡◌, ℕ, ◌<◌, ◌≤◌, List, [], ◌++◌, length, drop, Ok, Err, Result}
-use Rattle.std.specs.List.{AllByRecursion as All}
+use Rattle.std.specs.List.{AllByRecursion}
 use Rattle.store.specs.declared.window.Window.{Window}
 use Rattle.store.specs.Sound.{FirstFaulty, Sound}
 use Rattle.rules.specs.declared.row.Row.{Row}
@@ -30,7 +30,7 @@ pub record Accepted (file : List ℕ) (ws : List Window) (rows : List Row) : Typ
   pub short : length file ≤ 1288
   pub is : file ≡ file_of ws rows
   pub few : length ws ≤ 256
-  pub sound : All Sound ws
+  pub sound : AllByRecursion Sound ws
   pub adds : AddsTo (length ws) rows (Ok tt)
 
 pub data PlansFile (file was : List ℕ) (r : Result ℕ FileFault) (is : List ℕ) : Type 0 where
@@ -38,7 +38,7 @@ pub data PlansFile (file was : List ℕ) (r : Result ℕ FileFault) (is : List �
   no_sheet_file : length file ≤ 1288 → (Ends file → ⊥) → r ≡ Err NoSheetFile → is ≡ was → PlansFile file was r is
   trailer_disagrees : length file ≤ 1288 → Ends file → (Agrees file → ⊥) → r ≡ Err TrailerDisagrees → is ≡ was → PlansFile file was r is
   faulty_window : (ws : List Window) (rows : List Row) (lot : ℕ) → length file ≤ 1288 → file ≡ file_of ws rows → FirstFaulty ws lot → r ≡ Err (Sheet (sheet.FaultyWindow lot)) → is ≡ was → PlansFile file was r is
-  rule_refused : (ws : List Window) (rows : List Row) (why : SheetFault) → length file ≤ 1288 → file ≡ file_of ws rows → All Sound ws → AddsTo (length ws) rows (Err why) → r ≡ Err (Sheet why) → is ≡ was → PlansFile file was r is
+  rule_refused : (ws : List Window) (rows : List Row) (why : SheetFault) → length file ≤ 1288 → file ≡ file_of ws rows → AllByRecursion Sound ws → AddsTo (length ws) rows (Err why) → r ≡ Err (Sheet why) → is ≡ was → PlansFile file was r is
   short_answer : (ws : List Window) (rows : List Row) → Accepted file ws rows → length was < length ws → r ≡ Err (Sheet sheet.ShortAnswer) → is ≡ was → PlansFile file was r is
   no_plan : (ws : List Window) (rows : List Row) → Accepted file ws rows → length ws ≤ length was → NoPlan ws rows → r ≡ Err (Sheet sheet.NoPlan) → is ≡ was → PlansFile file was r is
   planned : (ws : List Window) (rows : List Row) (ds : List ℕ) → Accepted file ws rows → length ws ≤ length was → Earliest ws rows ds → r ≡ Ok (length ws) → is ≡ ds ++ drop (length ws) was → PlansFile file was r is

@@ -1,6 +1,6 @@
 -- Laws of the parts into which a sheet falls: a plan has plans of its parts, and the earliest plans of parts that have no rule in common join.
 use Rattle.std.proofs.Common.{◌≡◌, ℕ, ◌+◌, ◌-◌, ◌≤◌, true, false, ◌⊎◌, List, [], ◌∷◌, ◌++◌, map, length, take, drop, filter, sym, refl, ap, ◌∙◌, subst, inl, inr, arith}
-use Rattle.std.specs.List.{AllByRecursion as All}
+use Rattle.std.specs.List.{AllByRecursion}
 use Rattle.std.proofs.ByRecursion.{All-weaker}
 use Rattle.std.proofs.lemmas.List.{take-append-drop, drop-drop, take_at, drop_at, drop_all, length-take-le, length-drop}
 use Rattle.std.proofs.lemmas.Bool.{cond_both, cond-true, cond-false}
@@ -21,20 +21,20 @@ KeepsThere a b ds r = a ≤ r.first → r.first + r.length ≤ b → Keeps ds (r
 
 module _ (a b : ℕ) (ds : List ℕ) where
   -- days that keep the rules of a part keep each rule that lies there
-  keeps_from_within : (rules : List Row) → All (Keeps ds) (within a b rules) → All (KeepsThere a b ds) rules
+  keeps_from_within : (rules : List Row) → AllByRecursion (Keeps ds) (within a b rules) → AllByRecursion (KeepsThere a b ds) rules
   keeps_from_within [] = λ k. tt
   keeps_from_within (r ∷ rules) =
       let out : lies a b r ≡ false → KeepsThere a b ds r = λ e l h. absurd (grind (arith, nat_tests)) in
       cond_both (lies a b r) (r ∷ filter (lies a b) rules) (filter (lies a b) rules)
-      (λ rs. All (Keeps ds) (map (renumbered a) rs) → All (KeepsThere a b ds) (r ∷ rules))
+      (λ rs. AllByRecursion (Keeps ds) (map (renumbered a) rs) → AllByRecursion (KeepsThere a b ds) (r ∷ rules))
       (λ e k. (λ l h. k.0, keeps_from_within rules k.1)) (λ e k. (out e, keeps_from_within rules k))
 
   -- and the other way round
-  keeps_to_within : (rules : List Row) → All (KeepsThere a b ds) rules → All (Keeps ds) (within a b rules)
+  keeps_to_within : (rules : List Row) → AllByRecursion (KeepsThere a b ds) rules → AllByRecursion (Keeps ds) (within a b rules)
   keeps_to_within [] k = tt
   keeps_to_within (r ∷ rules) (k, ks) =
       let here : lies a b r ≡ true → Keeps ds (renumbered a r) = λ e. k (grind (arith, nat_tests)) (grind (arith, nat_tests)) in
-      cond_both (lies a b r) (r ∷ filter (lies a b) rules) (filter (lies a b) rules) (λ rs. All (Keeps ds) (map (renumbered a) rs))
+      cond_both (lies a b r) (r ∷ filter (lies a b) rules) (filter (lies a b) rules) (λ rs. AllByRecursion (Keeps ds) (map (renumbered a) rs))
       (λ e. (here e, keeps_to_within rules ks)) (λ e. keeps_to_within rules ks)
 
 -- days that keep a rule keep it over the lots from a on and before b
@@ -74,7 +74,7 @@ module _ (q p n : ℕ) (from : q ≤ p) (to : p ≤ n) (zs : List ℕ) (r : Row)
 
 -- the same for all rules
 module _ (q p n : ℕ) (from : q ≤ p) (to : p ≤ n) (zs : List ℕ) where
-  keeps_join_all : (rules : List Row) → Cut p rules → All (KeepsThere q p (take (p - q) zs)) rules → All (KeepsThere p n (drop (p - q) zs)) rules → All (KeepsThere q n zs) rules
+  keeps_join_all : (rules : List Row) → Cut p rules → AllByRecursion (KeepsThere q p (take (p - q) zs)) rules → AllByRecursion (KeepsThere p n (drop (p - q) zs)) rules → AllByRecursion (KeepsThere q n zs) rules
   keeps_join_all [] cut xs ys = tt
   keeps_join_all (r ∷ rules) (c, cut) (x, xs) (y, ys) = (keeps_join q p n from to zs r x y c, keeps_join_all rules cut xs ys)
 
@@ -129,7 +129,7 @@ earliest_join ws rules xs ys q p n from to len cut before after =
     }
 
 -- rules that all end before n are the rules of the first n lots
-pub within_all : (rules : List Row) (n : ℕ) → All (λ r. r.first + r.length ≤ n) rules → within 0 n rules ≡ rules
+pub within_all : (rules : List Row) (n : ℕ) → AllByRecursion (λ r. r.first + r.length ≤ n) rules → within 0 n rules ≡ rules
 within_all [] n a = refl
 within_all (r ∷ rules) n (h, a) =
     let here : lies 0 n r ≡ true = grind (arith, nat_tests) in
@@ -140,7 +140,7 @@ within_all (r ∷ rules) n (h, a) =
     cc
 
 -- rules of one lot or more: none lies among no lots
-pub within_none : (rules : List Row) (n : ℕ) → All (λ r. 1 ≤ r.length) rules → within n n rules ≡ []
+pub within_none : (rules : List Row) (n : ℕ) → AllByRecursion (λ r. 1 ≤ r.length) rules → within n n rules ≡ []
 within_none [] n a = refl
 within_none (r ∷ rules) n (h, a) =
     let out : lies n n r ≡ false = grind (arith, nat_tests) in
@@ -154,7 +154,7 @@ no_lots : Earliest [] [] []
 no_lots = record { plan = record { choice = tt; keeps = tt }; first = only_none }
 
 -- after the last lot the earliest plan has no days
-pub earliest_none : (ws : List Window) (rules : List Row) (n : ℕ) → n ≡ length ws → All (λ r. 1 ≤ r.length) rules → Earliest (drop n ws) (within n n rules) []
+pub earliest_none : (ws : List Window) (rules : List Row) (n : ℕ) → n ≡ length ws → AllByRecursion (λ r. 1 ≤ r.length) rules → Earliest (drop n ws) (within n n rules) []
 earliest_none ws rules n e a =
     subst (λ vs. Earliest vs (within n n rules) []) (sym (drop_all n ws (omega arith)))
     (subst (λ rs. Earliest [] rs []) (sym (within_none rules n a)) no_lots)

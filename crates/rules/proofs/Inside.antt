@@ -1,6 +1,6 @@
 -- Laws of lying inside: order, choices and plans, and parts of lists that go place by place.
 use Rattle.std.proofs.Common.{◌≡◌, ℕ, zero, suc, List, [], ◌∷◌, take, drop, refl, ap, ◌∙◌, arith}
-use Rattle.std.specs.List.{AllZip, AllByRecursion as All}
+use Rattle.std.specs.List.{AllZip, AllByRecursion}
 use Rattle.store.specs.declared.window.Window.{Window}
 use Rattle.nvalue.specs.Choices.{Choice, part}
 use Rattle.nvalue.specs.Nvalue.{nvalue}
@@ -80,7 +80,7 @@ keeps_stricter q r ds s k =
     (omega arith, omega arith)
 
 -- and so with all rules
-pub keeps_each : (qs rules : List Row) (ds : List ℕ) → AllZip Stricter qs rules → All (Keeps ds) qs → All (Keeps ds) rules
+pub keeps_each : (qs rules : List Row) (ds : List ℕ) → AllZip Stricter qs rules → AllByRecursion (Keeps ds) qs → AllByRecursion (Keeps ds) rules
 keeps_each [] [] ds e k = tt
 keeps_each [] (r ∷ rules) ds e k = absurd e
 keeps_each (q ∷ qs) [] ds e k = absurd e

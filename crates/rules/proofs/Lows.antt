@@ -1,6 +1,6 @@
 -- Where the low ends keep every rule they are the earliest plan.
 use Rattle.std.proofs.Common.{ℕ, ◌≤◌, List, [], ◌∷◌, arith}
-use Rattle.std.specs.List.{AllZip, AllByRecursion as All}
+use Rattle.std.specs.List.{AllZip, AllByRecursion}
 use Rattle.store.specs.declared.window.Window.{Window}
 use Rattle.nvalue.specs.Choices.{Choice}
 use Rattle.rules.specs.declared.row.Row.{Row}
@@ -8,7 +8,7 @@ use Rattle.rules.specs.Plans.{Keeps, Earliest, lows}
 use Rattle.rules.proofs.Order.{earlier_or_same}
 
 -- where no window is empty the low ends are a choice
-pub choice_lows : (ws : List Window) → All (λ w. w.low ≤ w.high) ws → Choice ws (lows ws)
+pub choice_lows : (ws : List Window) → AllByRecursion (λ w. w.low ≤ w.high) ws → Choice ws (lows ws)
 choice_lows [] a = tt
 choice_lows (w ∷ ws) (l, a) = ((omega arith, l), choice_lows ws a)
 
@@ -20,7 +20,7 @@ lows_least (w ∷ ws) [] c = absurd c
 lows_least (w ∷ ws) (d ∷ ds) (b, c) = (b.0, lows_least ws ds c)
 
 -- so they are the earliest plan where they keep every rule
-pub earliest_lows : (ws : List Window) (rules : List Row) → All (λ w. w.low ≤ w.high) ws → All (Keeps (lows ws)) rules → Earliest ws rules (lows ws)
+pub earliest_lows : (ws : List Window) (rules : List Row) → AllByRecursion (λ w. w.low ≤ w.high) ws → AllByRecursion (Keeps (lows ws)) rules → Earliest ws rules (lows ws)
 earliest_lows ws rules a k = record {
   plan = record { choice = choice_lows ws a; keeps = k };
   first = λ es p. earlier_or_same (lows ws) es (lows_least ws es p.choice);

@@ -1,6 +1,6 @@
 -- A plan is a firm box of single days, so the greatest firm windows keep every plan.
 use Rattle.std.proofs.Common.{◌≡◌, ℕ, zero, suc, ◌≤◌, List, [], ◌∷◌, map, get_or, take, drop, sym, refl, ap, ◌∙◌, arith}
-use Rattle.std.specs.List.{AllZip, AllByRecursion as All}
+use Rattle.std.specs.List.{AllZip, AllByRecursion}
 use Rattle.std.proofs.lemmas.List.{take-map, drop-map}
 use Rattle.store.specs.declared.window.Window.{Window}
 use Rattle.store.specs.Windows.{window, window_at}
@@ -49,15 +49,15 @@ points_rule ds r =
       ceiling = (stretch r ds, c, refl);
     }
 
-points_rules : (ds : List ℕ) (rules : List Row) → All (FirmRule (points ds)) (map (pinned ds) rules)
+points_rules : (ds : List ℕ) (rules : List Row) → AllByRecursion (FirmRule (points ds)) (map (pinned ds) rules)
 points_rules ds [] = tt
 points_rules ds (r ∷ rules) = (points_rule ds r, points_rules ds rules)
 
-points_counts : (ds : List ℕ) (rules : List Row) → All (λ r. r.floor ≤ r.ceiling) (map (pinned ds) rules)
+points_counts : (ds : List ℕ) (rules : List Row) → AllByRecursion (λ r. r.floor ≤ r.ceiling) (map (pinned ds) rules)
 points_counts ds [] = tt
 points_counts ds (r ∷ rules) = (omega arith, points_counts ds rules)
 
-points_days : (ds : List ℕ) → All (λ w. w.low ≤ w.high) (points ds)
+points_days : (ds : List ℕ) → AllByRecursion (λ w. w.low ≤ w.high) (points ds)
 points_days [] = tt
 points_days (d ∷ ds) = (omega arith, points_days ds)
 
@@ -71,11 +71,11 @@ points_narrower [] (d ∷ ds) c = absurd c
 points_narrower (w ∷ ws) [] c = absurd c
 points_narrower (w ∷ ws) (d ∷ ds) (b, c) = (b, points_narrower ws ds c)
 
-points_stricter : (ds : List ℕ) (rules : List Row) → All (Keeps ds) rules → AllZip Stricter (map (pinned ds) rules) rules
+points_stricter : (ds : List ℕ) (rules : List Row) → AllByRecursion (Keeps ds) rules → AllZip Stricter (map (pinned ds) rules) rules
 points_stricter ds [] k = tt
 points_stricter ds (r ∷ rules) (k, ks) = (record { first = refl; length = refl; floor = k.0; ceiling = k.1 }, points_stricter ds rules ks)
 
-points_keeps : (ds : List ℕ) (rules : List Row) → All (Keeps ds) (map (pinned ds) rules)
+points_keeps : (ds : List ℕ) (rules : List Row) → AllByRecursion (Keeps ds) (map (pinned ds) rules)
 points_keeps ds [] = tt
 points_keeps ds (r ∷ rules) = ((omega arith, omega arith), points_keeps ds rules)
 

@@ -1,11 +1,11 @@
 -- How a sheet falls into parts that have no rule in common.
 use Rattle.std.specs.Prelude.{ℕ, ◌+◌, ◌-◌, ◌≤◌, Bool, ◌&&◌, ◌⊎◌, List, map, filter, nat_le}
-use Rattle.std.specs.List.{AllByRecursion as All}
+use Rattle.std.specs.List.{AllByRecursion}
 use Rattle.rules.specs.declared.row.Row.{Row}
 
 -- no stretch goes across the border before the lot p
 abbrev pub Cut : ℕ → List Row → Type 0
-Cut p rules = All (λ r. (r.first + r.length ≤ p) ⊎ (p ≤ r.first)) rules
+Cut p rules = AllByRecursion (λ r. (r.first + r.length ≤ p) ⊎ (p ≤ r.first)) rules
 
 -- the stretch lies among the lots from a on and before b
 abbrev pub lies : ℕ → ℕ → Row → Bool

@@ -1,6 +1,6 @@
 -- Firm windows and count windows: each of their ends is in use. In the field's words, every rule is bound consistent.
 use Rattle.std.specs.Prelude.{◌≡◌, ℕ, ◌<◌, ◌≤◌, List, length, slice_index}
-use Rattle.std.specs.List.{AllZip, AllByRecursion as All}
+use Rattle.std.specs.List.{AllZip, AllByRecursion}
 use Rattle.store.specs.declared.window.Window.{Window}
 use Rattle.store.specs.Windows.{window_at}
 use Rattle.nvalue.specs.Choices.{Choice}
@@ -25,9 +25,9 @@ pub record FirmRule (ws : List Window) (r : Row) : Type 0 where
 
 -- windows and count windows are firm: none is empty, and so it is with every rule
 pub record Firm (ws : List Window) (rules : List Row) : Type 0 where
-  pub days : All (λ w. w.low ≤ w.high) ws
-  pub counts : All (λ r. r.floor ≤ r.ceiling) rules
-  pub each : All (FirmRule ws) rules
+  pub days : AllByRecursion (λ w. w.low ≤ w.high) ws
+  pub counts : AllByRecursion (λ r. r.floor ≤ r.ceiling) rules
+  pub each : AllByRecursion (FirmRule ws) rules
 
 -- a window lies inside another
 abbrev pub Narrower : Window → Window → Type 0

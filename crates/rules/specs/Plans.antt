@@ -1,6 +1,6 @@
 -- What a plan is, and which of two plans is the earlier.
 use Rattle.std.specs.Prelude.{◌≡◌, ℕ, ◌<◌, ◌⊎◌, List, map, take, slice_index, slice_index_or}
-use Rattle.std.specs.List.{AllByRecursion as All}
+use Rattle.std.specs.List.{AllByRecursion}
 use Rattle.store.specs.declared.window.Window.{Window}
 use Rattle.nvalue.specs.Choices.{Choice, part}
 use Rattle.nvalue.specs.Nvalue.{Counts}
@@ -17,7 +17,7 @@ Keeps ds r = Counts r.floor r.ceiling (stretch r ds)
 -- a plan: a choice for all lots that keeps every rule
 pub record Plan (ws : List Window) (rules : List Row) (ds : List ℕ) : Type 0 where
   pub choice : Choice ws ds
-  pub keeps : All (Keeps ds) rules
+  pub keeps : AllByRecursion (Keeps ds) rules
 
 abbrev pub NoPlan : List Window → List Row → Type 0
 NoPlan ws rules = (ds : List ℕ) → Plan ws rules ds → ⊥

@@ -1,6 +1,6 @@
 -- The rules of a book, and what stays of a rule where the window of one lot changes.
 use Rattle.std.proofs.Common.{◌≡◌, ℕ, zero, suc, ◌+◌, ◌<◌, ◌≤◌, List, [], ◌∷◌, length, get_or, take, set, sym, refl, ap, ◌∙◌, subst, inl, inr, arith}
-use Rattle.std.specs.List.{AllByRecursion as All}
+use Rattle.std.specs.List.{AllByRecursion}
 use Rattle.std.proofs.ByRecursion.{All-from_get_or}
 use Rattle.std.proofs.lemmas.List.{ext_get_or, get_or-map, length-map, take-set-le, drop-set-lt}
 use Rattle.std.proofs.lemmas.Bool.{cases_lt}
@@ -23,10 +23,10 @@ rule_fits book k h =
     subst (Fits (lots_of book)) (sym (rules_at book k b)) (book.kept k (row 0 0 0 0) b)
 
 -- so every stretch has a lot, and ends with the lots at the latest
-pub rules_some : (book : Book) → All (λ r. 1 ≤ r.length) (rules_of book)
+pub rules_some : (book : Book) → AllByRecursion (λ r. 1 ≤ r.length) (rules_of book)
 rules_some book = All-from_get_or (λ r. 1 ≤ r.length) (rules_of book) (row 0 0 0 0) (λ k h. (rule_fits book k h).0)
 
-pub rules_end : (book : Book) (n : ℕ) → n ≡ lots_of book → All (λ r. r.first + r.length ≤ n) (rules_of book)
+pub rules_end : (book : Book) (n : ℕ) → n ≡ lots_of book → AllByRecursion (λ r. r.first + r.length ≤ n) (rules_of book)
 rules_end book n e = All-from_get_or (λ r. r.first + r.length ≤ n) (rules_of book) (row 0 0 0 0) (λ k h. omega (arith, (rule_fits book k h).1))
 
 -- days that are written lot by lot

@@ -1,6 +1,6 @@
 -- Borders that no stretch goes across, and the plans of groups joined there.
 use Rattle.std.proofs.Common.{◌≡◌, ℕ, zero, suc, ◌+◌, ◌-◌, ◌<◌, ◌≤◌, true, ◌⊎◌, List, [], ◌∷◌, ◌++◌, length, get_or, drop, replicate, sym, refl, ap, ◌∙◌, subst, inl, inr, arith}
-use Rattle.std.specs.List.{AllByRecursion as All}
+use Rattle.std.specs.List.{AllByRecursion}
 use Rattle.std.proofs.lemmas.List.{take-append-drop, drop-drop, drop_all}
 use Rattle.std.proofs.lemmas.Bool.{cases_lt}
 use Rattle.store.specs.declared.window.Window.{Window}
@@ -31,7 +31,7 @@ cut_zero [] p h = tt
 cut_zero (r ∷ rules) p h = (inr (omega arith), cut_zero rules p h)
 
 -- nor across the one after the last
-pub cut_end : (rules : List Row) (n : ℕ) → All (λ r. r.first + r.length ≤ n) rules → Cut n rules
+pub cut_end : (rules : List Row) (n : ℕ) → AllByRecursion (λ r. r.first + r.length ≤ n) rules → Cut n rules
 cut_end [] n a = tt
 cut_end (r ∷ rules) n (h, a) = (inl h, cut_end rules n a)
 
@@ -48,12 +48,12 @@ earliest_more ws rules ds es q p l h c e before after =
     subst (Earliest (drop q ws) (within q (length ws) rules)) (days_join ds es q p l e) (earliest_join ws rules (part ds q (p - q)) (drop p es) q p (length ws) l h refl c before after)
 
 -- no group yet
-pub earliest_end : (ws : List Window) (rules : List Row) (ds : List ℕ) → length ds ≡ length ws → All (λ r. 1 ≤ r.length) rules → Earliest (drop (length ws) ws) (within (length ws) (length ws) rules) (drop (length ws) ds)
+pub earliest_end : (ws : List Window) (rules : List Row) (ds : List ℕ) → length ds ≡ length ws → AllByRecursion (λ r. 1 ≤ r.length) rules → Earliest (drop (length ws) ws) (within (length ws) (length ws) rules) (drop (length ws) ds)
 earliest_end ws rules ds n a =
     subst (Earliest (drop (length ws) ws) (within (length ws) (length ws) rules)) (sym (drop_all (length ws) ds (omega arith))) (earliest_none ws rules (length ws) refl a)
 
 -- all groups
-pub earliest_all : (ws : List Window) (rules : List Row) (ds : List ℕ) (p : ℕ) → p ≤ 0 → All (λ r. r.first + r.length ≤ length ws) rules → Earliest (drop p ws) (within p (length ws) rules) (drop p ds) → Earliest ws rules ds
+pub earliest_all : (ws : List Window) (rules : List Row) (ds : List ℕ) (p : ℕ) → p ≤ 0 → AllByRecursion (λ r. r.first + r.length ≤ length ws) rules → Earliest (drop p ws) (within p (length ws) rules) (drop p ds) → Earliest ws rules ds
 earliest_all ws rules ds p z a e =
     let s : p ≡ 0 = omega arith in
     subst (λ rs. Earliest ws rs ds) (within_all rules (length ws) a) (subst (λ k. Earliest (drop k ws) (within k (length ws) rules) (drop k ds)) s e)

@@ -1,6 +1,6 @@
 -- What is left where the first days of a lot have failed: the same plans, and the earliest of them.
 use Rattle.std.proofs.Common.{◌≡◌, ℕ, zero, suc, ◌<◌, ◌≤◌, List, [], ◌∷◌, length, get_or, take, set, refl, ◌∙◌, subst, inl, inr, arith}
-use Rattle.std.specs.List.{AllZip, AllByRecursion as All}
+use Rattle.std.specs.List.{AllZip, AllByRecursion}
 use Rattle.std.proofs.lemmas.List.Elements.{AllZip-get_or, length_all_zip}
 use Rattle.std.proofs.lemmas.List.{get_or-set_same, length-set, set-set, set-get_or}
 use Rattle.std.proofs.lemmas.Bool.{cases_lt}
@@ -61,14 +61,14 @@ choice_single (w ∷ ws) (x ∷ xs) (y ∷ ys) (suc n) (b, c) (e, d) s =
     cc
 
 -- the only choice where no window has more than one day
-choice_lows : (ws : List Window) (ds : List ℕ) → All Single ws → Choice ws ds → ds ≡ lows ws
+choice_lows : (ws : List Window) (ds : List ℕ) → AllByRecursion Single ws → Choice ws ds → ds ≡ lows ws
 choice_lows [] [] s c = refl
 choice_lows [] (d ∷ ds) s c = absurd c
 choice_lows (w ∷ ws) [] s c = absurd c
 choice_lows (w ∷ ws) (d ∷ ds) (s, ss) (b, c) = let h : d ≡ w.low = omega arith in let t = choice_lows ws ds ss c in cc
 
-pub single_none : (ws : List Window) (rules : List Row) → All Single ws → (All (Keeps (lows ws)) rules → ⊥) → NoPlan ws rules
-single_none ws rules s out ds p = out (subst (λ es. All (Keeps es) rules) (choice_lows ws ds s p.choice) p.keeps)
+pub single_none : (ws : List Window) (rules : List Row) → AllByRecursion Single ws → (AllByRecursion (Keeps (lows ws)) rules → ⊥) → NoPlan ws rules
+single_none ws rules s out ds p = out (subst (λ es. AllByRecursion (Keeps es) rules) (choice_lows ws ds s p.choice) p.keeps)
 
 module _ (ws : List Window) (rules : List Row) (lot : ℕ) (there : lot < length ws) where
   -- a plan that gives the lot its first day is one of the fixed windows
@@ -119,7 +119,7 @@ each_set (v ∷ ws) (suc i) w n = ((omega arith, omega arith), each_set ws i w n
 
 -- a lot goes on to a later day, and all is settled again
 module _ (ws : List Window) (rules : List Row) (lot day : ℕ) (there : lot < length ws) (l : (window_at ws lot).low < day) (h : day ≤ (window_at ws lot).high) (after : (ds : List ℕ) → Plan ws rules ds → day ≤ get_or ds lot 0) where
-  pub raised : (vs : List Window) (qs : List Row) → GreatestFirm (from_day ws lot day) rules vs qs → All Sound vs → Raised ws rules vs qs
+  pub raised : (vs : List Window) (qs : List Row) → GreatestFirm (from_day ws lot day) rules vs qs → AllByRecursion Sound vs → Raised ws rules vs qs
   raised vs qs g s =
       let near = each_set ws lot (window day (window_at ws lot).high) (omega arith, omega arith) in
       record {

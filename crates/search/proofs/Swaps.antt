@@ -1,6 +1,6 @@
 -- Days that every window has or lacks together can stand for one another: exchanging two such days in a plan gives a plan.
 use Rattle.std.proofs.Common.{◌≡◌, ℕ, ◌-◌, ◌<◌, ◌≤◌, cond, eqb, List, [], ◌∷◌, map, length, get_or, take, drop, refl, ap, ◌∙◌, inl, inr, arith}
-use Rattle.std.specs.List.{AllByRecursion as All}
+use Rattle.std.specs.List.{AllByRecursion}
 use Rattle.std.proofs.ByRecursion.{All-from_get_or, All-weaker}
 use Rattle.std.proofs.lemmas.List.{get_or-map, take-map, drop-map}
 use Rattle.std.proofs.lemmas.Bool.{cases_lt}
@@ -41,7 +41,7 @@ keeps_swap x y ds r k =
 in_swap : (x y next d : ℕ) (w : Window) → x ≤ y → y < next → Uncut x next w → In w d → In w (swap x y d)
 in_swap x y next d w l h u b = let f = u.0 in let g = u.1 in (grind (arith, nat_tests), grind (arith, nat_tests))
 
-choice_swap : (x y next : ℕ) → x ≤ y → y < next → (ws : List Window) (ds : List ℕ) → All (Uncut x next) ws → Choice ws ds → Choice ws (map (swap x y) ds)
+choice_swap : (x y next : ℕ) → x ≤ y → y < next → (ws : List Window) (ds : List ℕ) → AllByRecursion (Uncut x next) ws → Choice ws ds → Choice ws (map (swap x y) ds)
 choice_swap x y next l h [] [] u c = tt
 choice_swap x y next l h [] (d ∷ ds) u c = absurd c
 choice_swap x y next l h (w ∷ ws) [] u c = absurd c

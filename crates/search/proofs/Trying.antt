@@ -1,6 +1,6 @@
 -- What the search keeps while it tries the days of a lot, and why it ends well.
 use Rattle.std.proofs.Common.{◌≡◌, ℕ, ◌<◌, List, length, refl, ◌∙◌, arith}
-use Rattle.std.specs.List.{AllZip, AllByRecursion as All}
+use Rattle.std.specs.List.{AllZip, AllByRecursion}
 use Rattle.std.proofs.lemmas.List.Elements.{length_all_zip}
 use Rattle.std.proofs.ByRecursion.{All-get_or}
 use Rattle.store.specs.declared.window.Window.{Window}
@@ -17,13 +17,13 @@ use Rattle.search.proofs.Widths.{width_fixed, width_fixed_open, width_narrower}
 -- The windows vs and the rules qs are left of the windows ws and the rules: settled, and with the same plans.
 pub record Trying (ws : List Window) (rules : List Row) (all lot : ℕ) (vs : List Window) (qs : List Row) (left : ℕ) : Type 0 where
   pub lots : left ≡ all
-  pub sound : All Sound vs
+  pub sound : AllByRecursion Sound vs
   pub firm : Firm vs qs
   pub inside : AllZip Narrower vs ws
   pub plans : SamePlans ws rules vs qs
   pub less : width (fixed vs lot) < width ws
 
-pub trying_none : (ws : List Window) (rules : List Row) (lots lot : ℕ) → All Sound ws → Firm ws rules → FirstOpen ws lot → Trying ws rules lots lot ws rules lots
+pub trying_none : (ws : List Window) (rules : List Row) (lots lot : ℕ) → AllByRecursion Sound ws → Firm ws rules → FirstOpen ws lot → Trying ws rules lots lot ws rules lots
 trying_none ws rules lots lot s f o = record {
   lots = refl;
   sound = s;

@@ -1,6 +1,6 @@
 -- What the search for the earliest plan speaks of.
 use Rattle.std.specs.Prelude.{ℕ, ◌+◌, ◌-◌, ◌<◌, ◌≤◌, List, [], ◌∷◌, length, slice_set}
-use Rattle.std.specs.List.{AllZip, AllByRecursion as All}
+use Rattle.std.specs.List.{AllZip, AllByRecursion}
 use Rattle.store.specs.declared.window.Window.{Window}
 use Rattle.store.specs.Sound.{Sound}
 use Rattle.store.specs.Windows.{window, window_at}
@@ -42,7 +42,7 @@ width (w ∷ ws) = (w.high - w.low) + width ws
 -- Windows and rules that are left once a day has failed: settled, inside those before, with a day less at least, and with the same plans.
 pub record Raised (ws : List Window) (rules : List Row) (vs : List Window) (qs : List Row) : Type 0 where
   pub firm : Firm vs qs
-  pub sound : All Sound vs
+  pub sound : AllByRecursion Sound vs
   pub inside : AllZip Narrower vs ws
   pub less : width vs < width ws
   pub plans : SamePlans ws rules vs qs

@@ -1,6 +1,6 @@
 // The earliest plan of a sheet, group by group: lots that no chain of overlapping stretches joins cannot affect each other.
 ghost use Rattle.std.specs.Prelude.{◌≡◌, ℕ, ◌+◌, ◌-◌, ◌<◌, ◌≤◌, true, false, length, drop, Decides, slice_index_or};
-ghost use Rattle.std.specs.List.{AllByRecursion as All};
+ghost use Rattle.std.specs.List.{AllByRecursion};
 ghost use Rattle.store.specs.Sound.{Sound};
 ghost use Rattle.nvalue.specs.Choices.{part};
 ghost use Rattle.rules.specs.Cuts.{Cut, within};
@@ -18,7 +18,7 @@ use store::window::Window;
 pub fn earliest_plan(windows: &[Window], book: &Book, days: &mut [u32]) -> bool
     requires lots { length windows.now ≡ lots_of book.now }
     requires few { length windows.now ≤ 256 }
-    requires sound { All Sound windows.now }
+    requires sound { AllByRecursion Sound windows.now }
     requires each { length days.old ≡ length windows.now }
     ensures found { result ≡ true → Earliest windows.now (rules_of book.now) days.new }
     ensures none { result ≡ false → NoPlan windows.now (rules_of book.now) }
@@ -43,7 +43,7 @@ fn all_due() -> [bool; 32]
 fn plan_groups(windows: &[Window], book: &Book, days: &mut [u32]) -> bool
     requires lots { length windows.now ≡ lots_of book.now }
     requires few { length windows.now ≤ 256 }
-    requires sound { All Sound windows.now }
+    requires sound { AllByRecursion Sound windows.now }
     requires each { length days.old ≡ length windows.now }
     ensures found { result ≡ true → Earliest windows.now (rules_of book.now) days.new }
     ensures none { result ≡ false → NoPlan windows.now (rules_of book.now) }
@@ -96,7 +96,7 @@ fn goes_across(stretch: Stretch, p: usize) -> bool
 // The earliest plan of the lots from `start` on and before `end`, by the rules that lie there. The days after them stay.
 fn plan_part(windows: &[Window], book: &Book, start: usize, end: usize, days: &mut [u32]) -> bool
     requires few { length windows.now ≤ 256 }
-    requires sound { All Sound windows.now }
+    requires sound { AllByRecursion Sound windows.now }
     requires each { length days.old ≡ length windows.now }
     requires ordered { start ≤ end }
     requires there { end ≤ length windows.now }
@@ -112,7 +112,7 @@ fn plan_part(windows: &[Window], book: &Book, start: usize, end: usize, days: &m
 fn plan_group(windows: &[Window], book: &Book, days: &mut [u32]) -> bool
     requires lots { length windows.now ≡ lots_of book.now }
     requires few { length windows.now ≤ 256 }
-    requires sound { All Sound windows.now }
+    requires sound { AllByRecursion Sound windows.now }
     requires each { length days.old ≡ length windows.now }
     ensures found { result ≡ true → Earliest windows.now (rules_of book.now) days.new }
     ensures none { result ≡ false → NoPlan windows.now (rules_of book.now) }

@@ -1,6 +1,6 @@
 // The search for the earliest plan: settle, look whether the first days will do, and else try the days of the first lot that has a choice, the earliest first.
 ghost use Rattle.std.specs.Prelude.{◌≡◌, ℕ, ◌<◌, ◌≤◌, true, false, length, slice_index_or};
-ghost use Rattle.std.specs.List.{AllByRecursion as All};
+ghost use Rattle.std.specs.List.{AllByRecursion};
 ghost use Rattle.store.specs.Sound.{Sound};
 ghost use Rattle.rules.specs.Firm.{Firm, FirmRule};
 ghost use Rattle.rules.specs.Plans.{Earliest, NoPlan, lows};
@@ -19,7 +19,7 @@ use store::window::Window;
 pub fn hunt(windows: &mut [Window], book: &Book, due: &mut [bool]) -> bool
     requires lots { length windows.old ≡ lots_of book.now }
     requires few { length windows.old ≤ 256 }
-    requires sound { All Sound windows.old }
+    requires sound { AllByRecursion Sound windows.old }
     requires flags { length due.old ≡ 32 }
     requires clean { (k : ℕ) → k < length (rules_of book.now) → slice_index_or due.old k true ≡ false → FirmRule windows.old (rule_at (rules_of book.now) k) }
     ensures found { result ≡ true → Earliest windows.old (rules_of book.now) (lows windows.new) }
@@ -34,7 +34,7 @@ pub fn hunt(windows: &mut [Window], book: &Book, due: &mut [bool]) -> bool
 fn pick(windows: &mut [Window], counts: &mut Book, due: &mut [bool]) -> bool
     requires lots { length windows.old ≡ lots_of counts.old }
     requires few { length windows.old ≤ 256 }
-    requires sound { All Sound windows.old }
+    requires sound { AllByRecursion Sound windows.old }
     requires flags { length due.old ≡ 32 }
     requires firm { Firm windows.old (rules_of counts.old) }
     ensures found { result ≡ true → Earliest windows.old (rules_of counts.old) (lows windows.new) }
@@ -54,7 +54,7 @@ fn pick(windows: &mut [Window], counts: &mut Book, due: &mut [bool]) -> bool
 fn try_days(windows: &mut [Window], counts: &mut Book, due: &mut [bool], lot: usize) -> bool
     requires lots { length windows.old ≡ lots_of counts.old }
     requires few { length windows.old ≤ 256 }
-    requires sound { All Sound windows.old }
+    requires sound { AllByRecursion Sound windows.old }
     requires flags { length due.old ≡ 32 }
     requires firm { Firm windows.old (rules_of counts.old) }
     requires first { FirstOpen windows.old lot }
@@ -74,7 +74,7 @@ fn try_days(windows: &mut [Window], counts: &mut Book, due: &mut [bool], lot: us
 fn try_low(windows: &mut [Window], counts: &Book, due: &mut [bool], lot: usize) -> bool
     requires lots { length windows.old ≡ lots_of counts.now }
     requires few { length windows.old ≤ 256 }
-    requires sound { All Sound windows.old }
+    requires sound { AllByRecursion Sound windows.old }
     requires flags { length due.old ≡ 32 }
     requires firm { Firm windows.old (rules_of counts.now) }
     requires there { lot < length windows.old }
@@ -111,7 +111,7 @@ fn copy_fixed(windows: &[Window], lot: usize, trial: &mut [Window])
 fn go_on(windows: &mut [Window], counts: &mut Book, due: &mut [bool], lot: usize) -> bool
     requires lots { length windows.old ≡ lots_of counts.old }
     requires few { length windows.old ≤ 256 }
-    requires sound { All Sound windows.old }
+    requires sound { AllByRecursion Sound windows.old }
     requires flags { length due.old ≡ 32 }
     requires firm { Firm windows.old (rules_of counts.old) }
     requires there { lot < length windows.old }

@@ -1,6 +1,6 @@
 // What the first days of all windows do to the rules, and the first lot that still has a choice.
 ghost use Rattle.std.specs.Prelude.{◌≡◌, ◌+◌, ◌<◌, ◌≤◌, true, false, length, Decides, MatchOption};
-ghost use Rattle.std.specs.List.{AllByRecursion as All};
+ghost use Rattle.std.specs.List.{AllByRecursion};
 ghost use Rattle.rules.specs.Plans.{Keeps, lows};
 ghost use Rattle.sheet.specs.Books.{rules_of, lots_of, plain};
 ghost use Rattle.search.specs.Search.{FirstOpen, Single};
@@ -14,7 +14,7 @@ use store::window::Window;
 pub fn lows_keep(windows: &[Window], book: &Book) -> bool
     requires lots { length windows.now ≡ lots_of book.now }
     requires few { length windows.now ≤ 256 }
-    ensures { Decides result (All (Keeps (lows windows.now)) (rules_of book.now)) }
+    ensures { Decides result (AllByRecursion (Keeps (lows windows.now)) (rules_of book.now)) }
 {
     let mut room = [0; 256];
     let days = &mut room[0..windows.len()];
@@ -35,7 +35,7 @@ pub fn write_lows(windows: &[Window], days: &mut [u32])
 // Do the days keep every rule?
 fn days_keep(days: &[u32], book: &Book) -> bool
     requires { length days.now ≡ lots_of book.now }
-    ensures { Decides result (All (Keeps days.now) (rules_of book.now)) }
+    ensures { Decides result (AllByRecursion (Keeps days.now) (rules_of book.now)) }
 {
     for number in 0..book.rules() {
         if let Some(rule) = book.rule(number) {
@@ -61,7 +61,7 @@ fn keeps(days: &[u32], rule: Rule) -> bool
 
 // The first lot whose window has more than one day.
 pub fn first_open(windows: &[Window]) -> Option<usize>
-    ensures { MatchOption result (All Single windows.now) (FirstOpen windows.now) }
+    ensures { MatchOption result (AllByRecursion Single windows.now) (FirstOpen windows.now) }
 {
     for lot in 0..windows.len() {
         if windows[lot].low < windows[lot].high {

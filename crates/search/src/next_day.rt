@@ -1,6 +1,6 @@
 // The next day to try for a lot whose first day has failed.
 ghost use Rattle.std.specs.Prelude.{◌<◌, length};
-ghost use Rattle.std.specs.List.{AllByRecursion as All};
+ghost use Rattle.std.specs.List.{AllByRecursion};
 ghost use Rattle.store.specs.Sound.{Sound};
 ghost use Rattle.search.specs.Search.{NextDay};
 
@@ -9,7 +9,7 @@ use store::window::Window;
 // The first day at which some window begins, or after which some window ends. The days before it are all alike: in a plan they can stand for one another.
 pub fn next_day(windows: &[Window], lot: usize) -> u32
     requires there { lot < length windows.now }
-    requires sound { All Sound windows.now }
+    requires sound { AllByRecursion Sound windows.now }
     ensures { NextDay windows.now lot result }
 {
     let day = windows[lot].low;

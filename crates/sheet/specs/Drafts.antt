@@ -1,6 +1,6 @@
 -- What start, add rule and add rows give, case by case in the order of their checks; a refusal leaves book and slip as they were.
 use Rattle.std.specs.Prelude.{◌≡◌, ℕ, ◌+◌, ◌<◌, ◌≤◌, ◌⊎◌, List, [], ◌∷◌, ◌++◌, length, Ok, Err, Result}
-use Rattle.std.specs.List.{AllByRecursion as All}
+use Rattle.std.specs.List.{AllByRecursion}
 use Rattle.store.specs.declared.window.Window.{Window}
 use Rattle.store.specs.Sound.{FirstFaulty, Sound}
 use Rattle.rules.specs.declared.row.Row.{Row}
@@ -17,7 +17,7 @@ draft lots rules = record { lots = lots; rules = rules }
 pub data Starts (ws : List Window) (was : Book) (r : Result Draft SheetFault) (is : Book) : Type 0 where
   too_many_lots : 256 < length ws → r ≡ Err TooManyLots → is ≡ was → Starts ws was r is
   faulty_window : (lot : ℕ) → length ws ≤ 256 → FirstFaulty ws lot → r ≡ Err (FaultyWindow lot) → is ≡ was → Starts ws was r is
-  started : length ws ≤ 256 → All Sound ws → r ≡ Ok (draft (length ws) 0) → lots_of is ≡ length ws → rules_of is ≡ [] → Starts ws was r is
+  started : length ws ≤ 256 → AllByRecursion Sound ws → r ≡ Ok (draft (length ws) 0) → lots_of is ≡ length ws → rules_of is ≡ [] → Starts ws was r is
 
 -- slip and book have the same lots and as many rules
 abbrev pub Agree : ℕ → ℕ → Book → Type 0

@@ -73,13 +73,34 @@ fn asks_for_days_refuse_in_order(rt: HostRuntime) -> Result<(), Fail> {
     slip.put_away();
     assert_eq!(rt; no_day, Err(SheetFault::NoSuchDay));
     assert_eq!(rt; no_day_after, Err(SheetFault::NoSuchDay));
-    assert_eq!(rt; no_lot, Err(SheetFault::Store(StoreRefusal { lot: 2, fault: StoreFault::NoSuchLot })));
+    assert_eq!(rt;
+        no_lot,
+        Err(SheetFault::Store(StoreRefusal {
+            lot: 2,
+            fault: StoreFault::NoSuchLot
+        }))
+    );
     assert_eq!(rt;
         no_lot_after,
-        Err(SheetFault::Store(StoreRefusal { lot: 3, fault: StoreFault::NoSuchLot }))
+        Err(SheetFault::Store(StoreRefusal {
+            lot: 3,
+            fault: StoreFault::NoSuchLot
+        }))
     );
-    assert_eq!(rt; past, Err(SheetFault::Store(StoreRefusal { lot: 0, fault: StoreFault::WouldEmpty })));
-    assert_eq!(rt; before, Err(SheetFault::Store(StoreRefusal { lot: 1, fault: StoreFault::WouldEmpty })));
+    assert_eq!(rt;
+        past,
+        Err(SheetFault::Store(StoreRefusal {
+            lot: 0,
+            fault: StoreFault::WouldEmpty
+        }))
+    );
+    assert_eq!(rt;
+        before,
+        Err(SheetFault::Store(StoreRefusal {
+            lot: 1,
+            fault: StoreFault::WouldEmpty
+        }))
+    );
     assert_eq!(rt; words, [3, 5, 4, 8]);
     Ok(())
 }
@@ -166,7 +187,14 @@ fn a_rule_never_loosens(rt: HostRuntime) -> Result<(), Fail> {
 #[test]
 fn every_refusal_has_its_number_and_place(rt: HostRuntime) {
     let cases = [
-        (SheetFault::Store(StoreRefusal { lot: 7, fault: StoreFault::NoSuchLot }), 1, 7),
+        (
+            SheetFault::Store(StoreRefusal {
+                lot: 7,
+                fault: StoreFault::NoSuchLot,
+            }),
+            1,
+            7,
+        ),
         (SheetFault::NoSuchDay, 2, 0),
         (SheetFault::NoSuchStretch, 3, 0),
         (SheetFault::NoSuchCount, 4, 0),
@@ -176,7 +204,14 @@ fn every_refusal_has_its_number_and_place(rt: HostRuntime) {
         (SheetFault::TooManyLots, 20, 0),
         (SheetFault::FaultyWindow(8), 21, 8),
         (SheetFault::BookFull, 22, 0),
-        (SheetFault::Store(StoreRefusal { lot: 6, fault: StoreFault::WouldEmpty }), 23, 6),
+        (
+            SheetFault::Store(StoreRefusal {
+                lot: 6,
+                fault: StoreFault::WouldEmpty,
+            }),
+            23,
+            6,
+        ),
         (SheetFault::NoCountLeft(5), 24, 5),
         (SheetFault::NoFirmWindows, 25, 0),
         (SheetFault::NoPlan, 26, 0),

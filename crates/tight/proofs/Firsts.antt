@@ -1,6 +1,6 @@
 -- First and last days of lots among the choices with the most different days, how they go through the mirror image, and the hull that they make.
 use Rattle.std.proofs.Common.{◌≡◌, ℕ, ◌+◌, ◌-◌, ◌/◌, ◌<◌, ◌≤◌, List, map, length, get_or, set, sym, ap, ◌∙◌, subst, arith, below_more}
-use Rattle.std.specs.List.{AllByRecursion as All}
+use Rattle.std.specs.List.{AllByRecursion}
 use Rattle.std.proofs.ByRecursion.{All-get_or}
 use Rattle.std.proofs.lemmas.List.{get_or-map, get_or-set_other, get_or-set_same, length-map}
 use Rattle.store.specs.declared.window.Window.{Window}
@@ -66,7 +66,7 @@ first_more ws days lot day l inv here =
     (λ k b. subst (FirstDay ws k) (sym (get_or-set_other days lot k day 0 (omega arith))) (inv k b))
     (subst (FirstDay ws lot) (sym (get_or-set_same days lot day 0 l)) here)
 
-module _ (ws : List Window) (sound : All Sound ws) where
+module _ (ws : List Window) (sound : AllByRecursion Sound ws) where
   -- the mirror image of a choice for the mirror image is a choice, with the same count
   choice_back : (ds : List ℕ) → Choice (map mirrored ws) ds → Choice ws (map flip ds)
   choice_back ds c = subst (λ vs. Choice vs (map flip ds)) (mirrored_twice ws sound) (choice_mirrored (map mirrored ws) ds c)

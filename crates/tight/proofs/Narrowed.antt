@@ -1,6 +1,6 @@
 -- Windows with one lot narrowed to a range of its days: their choices, and what their greatest count shows of the days in the range.
 use Rattle.std.proofs.Common.{◌≡◌, ℕ, zero, suc, ◌-◌, ◌<◌, ◌≤◌, List, [], ◌∷◌, length, get_or, set, sym, refl, subst, arith}
-use Rattle.std.specs.List.{AllByRecursion as All}
+use Rattle.std.specs.List.{AllByRecursion}
 use Rattle.std.proofs.ByRecursion.{All-get_or, All-set}
 use Rattle.std.proofs.lemmas.List.{get_or-set_same, length-set}
 use Rattle.store.specs.declared.window.Window.{Window}
@@ -34,10 +34,10 @@ narrowed ws lot from end = set ws lot (window from (end - 1))
 -- `copy` is such windows, with some days left, all in the lot's window
 module _ (ws : List Window) (lot from end : ℕ) (there : lot < length ws) (some : from < end) (low : (window_at ws lot).low ≤ from) (high : end ≤ (window_at ws lot).high)
     (copy : List Window) (same : copy ≡ narrowed ws lot from end) where
-  pub sound_narrowed : All Sound ws → All Sound copy
+  pub sound_narrowed : AllByRecursion Sound ws → AllByRecursion Sound copy
   sound_narrowed s =
       let w = All-get_or Sound ws lot (window 0 0) there s in
-      subst (All Sound) (sym same) (All-set Sound ws lot (window from (end - 1)) (omega arith, omega (arith, w.1)) s)
+      subst (AllByRecursion Sound) (sym same) (All-set Sound ws lot (window from (end - 1)) (omega arith, omega (arith, w.1)) s)
 
   -- k is the greatest count of the copy
   module _ (m : ℕ) (count : MostIs ws m) (days : List ℕ) (runs : List Window) (k : ℕ) (found : Greatest copy days runs k) where

@@ -1,7 +1,7 @@
 -- The days that choices with the fewest different days use: those from a point that is found from the right to its counterpart from the left. The first such day
 -- of each window is its new low end, and by the mirror image the last one is its new high end.
 use Rattle.std.proofs.Common.{◌≡◌, ℕ, zero, suc, ◌+◌, ◌-◌, ◌<◌, ◌≤◌, cond, ltb, List, [], ◌∷◌, map, length, get_or, set, sym, refl, ap, ◌∙◌, subst, inl, inr, arith}
-use Rattle.std.specs.List.{AllByRecursion as All}
+use Rattle.std.specs.List.{AllByRecursion}
 use Rattle.std.proofs.ByRecursion.{All-get_or, All-set, has_get_or}
 use Rattle.std.proofs.lemmas.List.{get_or-map, get_or-set_other, get_or-set_same, length-map}
 use Rattle.std.proofs.lemmas.Bool.{cases_eq, cases_lt, cond_both}
@@ -26,7 +26,7 @@ abbrev Among : ℕ → (ℕ → ℕ) → ℕ → Type 0
 Among m f d = (j : ℕ) × (j < m) × (f j ≡ d)
 
 -- where each window holds one of m days, some choice takes only such days
-choice_among : (ws : List Window) (m : ℕ) (f : ℕ → ℕ) → ((i : ℕ) → i < length ws → (j : ℕ) × (j < m) × In (window_at ws i) (f j)) → (ds : List ℕ) × Choice ws ds × All (Among m f) ds
+choice_among : (ws : List Window) (m : ℕ) (f : ℕ → ℕ) → ((i : ℕ) → i < length ws → (j : ℕ) × (j < m) × In (window_at ws i) (f j)) → (ds : List ℕ) × Choice ws ds × AllByRecursion (Among m f) ds
 choice_among [] m f held = ([], tt, tt)
 choice_among (w ∷ ws) m f held =
     let first = held 0 (omega arith) in
@@ -34,7 +34,7 @@ choice_among (w ∷ ws) m f held =
     (f first.0 ∷ rest.0, (first.2, rest.1), ((first.0, first.1, refl), rest.2))
 
 -- days that are all among m days are at most m different ones
-among_most : (ds : List ℕ) (m : ℕ) (f : ℕ → ℕ) → All (Among m f) ds → nvalue ds ≤ m
+among_most : (ds : List ℕ) (m : ℕ) (f : ℕ → ℕ) → AllByRecursion (Among m f) ds → nvalue ds ≤ m
 among_most ds m f all = nvalue_at_most ds m f (λ i h. All-get_or (Among m f) ds i 0 h all)
 
 -- what ascends does not fall
@@ -45,14 +45,14 @@ ascends_le f m up i j l h = elim (cases_eq i j) [ inl e ↦ omega (arith, ap f e
 has_day : (ws : List Window) (ds : List ℕ) → Choice ws ds → (i : ℕ) → i < length ws → has (get_or ds i 0) ds ≡ 1
 has_day ws ds c i h = has_from _ ds (has_get_or ds i 0 (omega (arith, choice_length ws ds c)))
 
-sound_at : (ws : List Window) → All Sound ws → (i : ℕ) → i < length ws → Sound (window_at ws i)
+sound_at : (ws : List Window) → AllByRecursion Sound ws → (i : ℕ) → i < length ws → Sound (window_at ws i)
 sound_at ws sound i h = All-get_or Sound ws i (window 0 0) h sound
 
 image : (ws : List Window) (i : ℕ) → i < length ws → window_at (map mirrored ws) i ≡ mirrored (window_at ws i)
 image ws i h = get_or-map mirrored ws i (window 0 0) (window 0 0) h
 
 -- points by themselves: they ascend, one lies at or past the first day of each window, and there are as many as the fewest different days
-module _ (ws : List Window) (ps : List ℕ) (sound : All Sound ws) (p : Points ws ps) where
+module _ (ws : List Window) (ps : List ℕ) (sound : AllByRecursion Sound ws) (p : Points ws ps) where
   pub points_ascend : Ascending ps
   points_ascend i j l h = omega (arith, p.apart i j l h, p.ends j h, (sound_at ws sound (p.witness j) (p.there j h)).0)
 
@@ -74,26 +74,26 @@ module _ (ws : List Window) (ps : List ℕ) (sound : All Sound ws) (p : Points w
       (λ j h. has_day ws ds c (p.witness j) (p.there j h))
 
 -- the mirror image needs at least as many points, and so just as many
-points_fewer : (ws : List Window) (ps qs : List ℕ) → All Sound ws → Points ws ps → Points (map mirrored ws) qs → length ps ≤ length qs
+points_fewer : (ws : List Window) (ps qs : List ℕ) → AllByRecursion Sound ws → Points ws ps → Points (map mirrored ws) qs → length ps ≤ length qs
 points_fewer ws ps qs sound p q =
     let e = points_enough (map mirrored ws) qs (sound_mirrored ws sound) q in
     omega (arith, points_needed ws ps sound p (map flip e.0) (choice_back ws e.0 sound e.1), nvalue_mirrored e.0 (choice_days (map mirrored ws) e.0 (sound_mirrored ws sound) e.1), e.2)
 
-points_twice : (ws : List Window) (ps : List ℕ) → All Sound ws → Points ws ps → Points (map mirrored (map mirrored ws)) ps
+points_twice : (ws : List Window) (ps : List ℕ) → AllByRecursion Sound ws → Points ws ps → Points (map mirrored (map mirrored ws)) ps
 points_twice ws ps sound p = subst (λ vs. Points vs ps) (sym (mirrored_twice ws sound)) p
 
-pub points_same : (ws : List Window) (ps qs : List ℕ) → All Sound ws → Points ws ps → Points (map mirrored ws) qs → length qs ≡ length ps
+pub points_same : (ws : List Window) (ps qs : List ℕ) → AllByRecursion Sound ws → Points ws ps → Points (map mirrored ws) qs → length qs ≡ length ps
 points_same ws ps qs sound p q =
     omega (arith, points_fewer ws ps qs sound p q, points_fewer (map mirrored ws) qs ps (sound_mirrored ws sound) q (points_twice ws ps sound p))
 
 -- in the mirror image a point lies at or past the image of the last day of each window
-pub image_reached : (ws : List Window) (qs : List ℕ) → All Sound ws → Points (map mirrored ws) qs → (i : ℕ) → i < length ws → Reached (flip (window_at ws i).high) qs
+pub image_reached : (ws : List Window) (qs : List ℕ) → AllByRecursion Sound ws → Points (map mirrored ws) qs → (i : ℕ) → i < length ws → Reached (flip (window_at ws i).high) qs
 image_reached ws qs sound q i h =
     subst (λ w. Reached w.low qs) (image ws i h) (points_reached (map mirrored ws) qs (sound_mirrored ws sound) q i (omega (arith, length-map ws mirrored)))
 
 -- Points ps, from the left, and those of the mirror image, qs. Turned back and in ascending order these are the points from the right, each the first day of a
 -- witness: `left k` lies at or before its counterpart `right k`, and choices with the fewest days use just the days between the two.
-module _ (ws : List Window) (ps qs : List ℕ) (sound : All Sound ws) (p : Points ws ps) (q : Points (map mirrored ws) qs) where
+module _ (ws : List Window) (ps qs : List ℕ) (sound : AllByRecursion Sound ws) (p : Points ws ps) (q : Points (map mirrored ws) qs) where
   abbrev right : ℕ → ℕ
   right k = get_or ps k 0
 
@@ -269,7 +269,7 @@ narrow_more ws is ps qs i v b old new k h =
     ]
 
 -- windows that are cut to their first and last used days are the smallest that hold every choice with the fewest days
-pub narrowed_hull : (ws : List Window) (ps qs : List ℕ) (is : List Window) → All Sound ws → Points ws ps → Points (map mirrored ws) qs → length is ≡ length ws
+pub narrowed_hull : (ws : List Window) (ps qs : List ℕ) (is : List Window) → AllByRecursion Sound ws → Points ws ps → Points (map mirrored ws) qs → length is ≡ length ws
     → ((i : ℕ) → i < length ws → Narrowed (window_at ws i) ps qs (window_at is i)) → Hull ws (HasFewest ws) is
 narrowed_hull ws ps qs is sound p q each cut =
     let vs = map mirrored ws in

@@ -1,6 +1,6 @@
 -- One rule's tightest windows: which choices a count window keeps, and which ends they use.
 use Rattle.std.proofs.Common.{◌≡◌, ℕ, ◌+◌, ◌<◌, ◌≤◌, min, max, ◌⊎◌, List, length, get_or, set, Some, None, Option, sym, refl, ap, ◌∙◌, subst, inl, inr, arith, MatchOption}
-use Rattle.std.specs.List.{AllByRecursion as All}
+use Rattle.std.specs.List.{AllByRecursion}
 use Rattle.std.proofs.ByRecursion.{All-get_or}
 use Rattle.std.proofs.lemmas.List.{get_or_past, get_or-set_same}
 use Rattle.std.proofs.lemmas.Bool.{cases_lt}
@@ -63,7 +63,7 @@ module _ (ws : List Window) (least most floor ceiling : ℕ) (lo : IsLeast ws le
       ]
 
   -- so the windows stay
-  pub stays : ((least < ceiling) × (floor < most)) ⊎ (least ≡ most) → least ≤ ceiling → floor ≤ most → All Sound ws → Hull ws (Counts floor ceiling) ws
+  pub stays : ((least < ceiling) × (floor < most)) ⊎ (least ≡ most) → least ≤ ceiling → floor ≤ most → AllByRecursion Sound ws → Hull ws (Counts floor ceiling) ws
   stays loose a b sound = record {
     each = refl;
     low = λ i h. let s = All-get_or Sound ws i (window 0 0) h sound in used loose a b i (window_at ws i).low h (omega arith, s.0);

@@ -1,6 +1,6 @@
 // The smallest windows that hold every choice with the fewest different days.
 ghost use Rattle.std.specs.Prelude.{◌≡◌, ℕ, ◌<◌, ◌≤◌, map, length, take, slice_index};
-ghost use Rattle.std.specs.List.{AllByRecursion as All};
+ghost use Rattle.std.specs.List.{AllByRecursion};
 ghost use Rattle.extremes.specs.Mirror.{mirrored};
 ghost use Rattle.extremes.specs.Points.{lasts, Points};
 ghost use Rattle.tight.specs.FirstUsed.{Ascending, Reached, FirstUsed};
@@ -14,7 +14,7 @@ use store::window::Window;
 
 // Finds the points from the left and, by the mirror image, from the right. Each pair of them bounds the days that can stand for one of the fewest.
 pub fn fewest_hull(windows: &[Window], hull: &mut [Window])
-    requires sound { All Sound windows.now }
+    requires sound { AllByRecursion Sound windows.now }
     requires few { length windows.now ≤ 256 }
     requires each { length hull.old ≡ length windows.now }
     ensures { Hull windows.now (HasFewest windows.now) hull.new }
@@ -36,7 +36,7 @@ pub fn fewest_hull(windows: &[Window], hull: &mut [Window])
 
 // Writes the points of a choice with the fewest different days, in ascending order.
 fn points_of(windows: &[Window], points: &mut [u32]) -> usize
-    requires sound { All Sound windows.now }
+    requires sound { AllByRecursion Sound windows.now }
     requires few { length windows.now ≤ 256 }
     requires room { length windows.now ≤ length points.old }
     ensures points { Points windows.now (take result points.new) }
@@ -51,7 +51,7 @@ fn points_of(windows: &[Window], points: &mut [u32]) -> usize
 
 // Writes the last day of each of some lots.
 fn last_days(windows: &[Window], lots: &[u32], days: &mut [u32])
-    requires there { All (λ lot. lot < length windows.now) lots.now }
+    requires there { AllByRecursion (λ lot. lot < length windows.now) lots.now }
     requires each { length days.old ≡ length lots.now }
     ensures { days.new ≡ lasts windows.now lots.now }
 {
@@ -62,7 +62,7 @@ fn last_days(windows: &[Window], lots: &[u32], days: &mut [u32])
 
 // Cuts each window to its first and its last used day; the last one is the first one of the mirror image.
 fn narrow(windows: &[Window], points: &[u32], image_points: &[u32], hull: &mut [Window])
-    requires sound { All Sound windows.now }
+    requires sound { AllByRecursion Sound windows.now }
     requires each { length hull.old ≡ length windows.now }
     requires points { Points windows.now points.now }
     requires image { Points (map mirrored windows.now) image_points.now }

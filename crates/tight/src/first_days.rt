@@ -1,6 +1,6 @@
 // The first day of each lot among the choices with the most different days.
 ghost use Rattle.std.specs.Prelude.{◌≡◌, ◌<◌, ◌≤◌, length};
-ghost use Rattle.std.specs.List.{AllByRecursion as All};
+ghost use Rattle.std.specs.List.{AllByRecursion};
 ghost use Rattle.tight.specs.FirstDays.{Best, MostIs, FirstDay, FirstDays};
 ghost use Rattle.store.specs.Sound.{Sound};
 
@@ -11,7 +11,7 @@ use store::window::Window;
 
 // Writes for each lot the first day that a choice with the most different days gives to it.
 pub fn first_days(windows: &[Window], firsts: &mut [u32])
-    requires sound { All Sound windows.now }
+    requires sound { AllByRecursion Sound windows.now }
     requires few { length windows.now ≤ 256 }
     requires each { length firsts.old ≡ length windows.now }
     ensures { FirstDays windows.now firsts.new }
@@ -30,7 +30,7 @@ pub fn first_days(windows: &[Window], firsts: &mut [u32])
 
 // A choice with the most different days that prefers early days, and its count.
 fn best_from_left(windows: &[Window], days: &mut [u32]) -> usize
-    requires sound { All Sound windows.now }
+    requires sound { AllByRecursion Sound windows.now }
     requires few { length windows.now ≤ 256 }
     requires each { length days.old ≡ length windows.now }
     ensures best { Best windows.now days.new }
@@ -42,7 +42,7 @@ fn best_from_left(windows: &[Window], days: &mut [u32]) -> usize
 
 // The same that prefers late days.
 fn best_from_right(windows: &[Window], days: &mut [u32])
-    requires sound { All Sound windows.now }
+    requires sound { AllByRecursion Sound windows.now }
     requires few { length windows.now ≤ 256 }
     requires each { length days.old ≡ length windows.now }
     ensures { Best windows.now days.new }
@@ -58,7 +58,7 @@ fn best_from_right(windows: &[Window], days: &mut [u32])
 // Each turn tries `width` days: at first all those before the day in `left`, which often is the one sought, then half of what is left. `left` takes early days, fewer than 256 past the window's first, so nine trials do.
 // Where the lot can move to `first` in `left` or `right` none is needed.
 fn first_day(windows: &[Window], lot: usize, most: usize, left: &[u32], right: &[u32]) -> u32
-    requires sound { All Sound windows.now }
+    requires sound { AllByRecursion Sound windows.now }
     requires few { length windows.now ≤ 256 }
     requires there { lot < length windows.now }
     requires count { MostIs windows.now most }

@@ -1,6 +1,6 @@
 // The smallest windows that hold every choice with the most different days.
 ghost use Rattle.std.specs.Prelude.{◌≡◌, ◌≤◌, length};
-ghost use Rattle.std.specs.List.{AllByRecursion as All};
+ghost use Rattle.std.specs.List.{AllByRecursion};
 ghost use Rattle.tight.specs.FirstDays.{LastDays};
 ghost use Rattle.extremes.specs.Shown.{HasMost};
 ghost use Rattle.store.specs.Sound.{Sound};
@@ -12,7 +12,7 @@ use store::window::Window;
 
 // Writes for each lot the first and the last day that a choice with the most different days gives to it.
 pub fn most_hull(windows: &[Window], hull: &mut [Window])
-    requires sound { All Sound windows.now }
+    requires sound { AllByRecursion Sound windows.now }
     requires few { length windows.now ≤ 256 }
     requires each { length hull.old ≡ length windows.now }
     ensures { Hull windows.now (HasMost windows.now) hull.new }
@@ -34,7 +34,7 @@ pub fn most_hull(windows: &[Window], hull: &mut [Window])
 
 // Writes for each lot the last day that a choice with the most different days gives to it: the first one of the mirror image.
 fn last_days(windows: &[Window], lasts: &mut [u32])
-    requires sound { All Sound windows.now }
+    requires sound { AllByRecursion Sound windows.now }
     requires few { length windows.now ≤ 256 }
     requires each { length lasts.old ≡ length windows.now }
     ensures { LastDays windows.now lasts.new }

@@ -1,6 +1,6 @@
 // The tightest windows of one rule: bound consistency of a single nvalue constraint.
 ghost use Rattle.std.specs.Prelude.{◌≡◌, ℕ, ◌≤◌, List, length, MatchOption, MatchResult};
-ghost use Rattle.std.specs.List.{AllByRecursion as All};
+ghost use Rattle.std.specs.List.{AllByRecursion};
 ghost use Rattle.nvalue.specs.Choices.{Choice};
 ghost use Rattle.count.specs.Asked.{Unfit};
 ghost use Rattle.extremes.specs.Shown.{HasFewest, HasMost};
@@ -22,7 +22,7 @@ pub fn tighten(
     windows: &mut [Window],
     count: CountWindow,
 ) -> Result<Option<CountWindow>, CountFault>
-    ensures { MatchResult result (λ o. (length windows.old ≤ 256) × All Sound windows.old × MatchOption o (((ds : List ℕ) → Choice windows.old ds → Counts count.floor count.ceiling ds → ⊥) × (windows.new ≡ windows.old)) (λ tight. Tightest windows.old count.floor count.ceiling windows.new tight.floor tight.ceiling)) (λ e. Unfit windows.old e × (windows.new ≡ windows.old)) }
+    ensures { MatchResult result (λ o. (length windows.old ≤ 256) × AllByRecursion Sound windows.old × MatchOption o (((ds : List ℕ) → Choice windows.old ds → Counts count.floor count.ceiling ds → ⊥) × (windows.new ≡ windows.old)) (λ tight. Tightest windows.old count.floor count.ceiling windows.new tight.floor tight.ceiling)) (λ e. Unfit windows.old e × (windows.new ≡ windows.old)) }
 {
     if windows.len() > 256 {
         return Err(CountFault::TooManyLots);
@@ -35,7 +35,7 @@ pub fn tighten(
 
 // The first window that is empty or has a day above 9,999.
 fn first_unsound(windows: &[Window]) -> Option<usize>
-    ensures { MatchOption result (All Sound windows.now) (FirstFaulty windows.now) }
+    ensures { MatchOption result (AllByRecursion Sound windows.now) (FirstFaulty windows.now) }
 {
     for i in 0..windows.len() {
         if windows[i].low > windows[i].high || windows[i].high > 9999 {
@@ -46,7 +46,7 @@ fn first_unsound(windows: &[Window]) -> Option<usize>
 }
 
 fn tighten_sound(windows: &mut [Window], count: CountWindow) -> Option<CountWindow>
-    requires sound { All Sound windows.old }
+    requires sound { AllByRecursion Sound windows.old }
     requires few { length windows.old ≤ 256 }
     ensures { MatchOption result (((ds : List ℕ) → Choice windows.old ds → Counts count.floor count.ceiling ds → ⊥) × (windows.new ≡ windows.old)) (λ tight. Tightest windows.old count.floor count.ceiling windows.new tight.floor tight.ceiling) }
 {
@@ -63,7 +63,7 @@ fn tighten_sound(windows: &mut [Window], count: CountWindow) -> Option<CountWind
 
 // A day is lost only where the ceiling is the least count or the floor the greatest, and not every choice has that count.
 fn narrow(windows: &mut [Window], least: u32, most: u32, floor: u32, ceiling: u32)
-    requires sound { All Sound windows.old }
+    requires sound { AllByRecursion Sound windows.old }
     requires few { length windows.old ≤ 256 }
     requires least { IsLeast windows.old least }
     requires most { IsGreatest windows.old most }
@@ -84,7 +84,7 @@ fn narrow(windows: &mut [Window], least: u32, most: u32, floor: u32, ceiling: u3
 
 // The least count of any choice.
 fn least_count(windows: &[Window]) -> u32
-    requires sound { All Sound windows.now }
+    requires sound { AllByRecursion Sound windows.now }
     requires few { length windows.now ≤ 256 }
     ensures { IsLeast windows.now result }
 {
@@ -96,7 +96,7 @@ fn least_count(windows: &[Window]) -> u32
 
 // The greatest count of any choice.
 fn greatest_count(windows: &[Window]) -> u32
-    requires sound { All Sound windows.now }
+    requires sound { AllByRecursion Sound windows.now }
     requires few { length windows.now ≤ 256 }
     ensures { IsGreatest windows.now result }
 {
@@ -108,7 +108,7 @@ fn greatest_count(windows: &[Window]) -> u32
 
 // Narrows to the choices with the fewest different days.
 fn narrow_to_fewest(windows: &mut [Window])
-    requires sound { All Sound windows.old }
+    requires sound { AllByRecursion Sound windows.old }
     requires few { length windows.old ≤ 256 }
     ensures { Hull windows.old (HasFewest windows.old) windows.new }
 {
@@ -120,7 +120,7 @@ fn narrow_to_fewest(windows: &mut [Window])
 
 // Narrows to the choices with the most different days.
 fn narrow_to_most(windows: &mut [Window])
-    requires sound { All Sound windows.old }
+    requires sound { AllByRecursion Sound windows.old }
     requires few { length windows.old ≤ 256 }
     ensures { Hull windows.old (HasMost windows.old) windows.new }
 {

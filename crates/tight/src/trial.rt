@@ -1,6 +1,6 @@
 // Trying days for a lot: whether a choice with the most different days gives it one of them.
 ghost use Rattle.std.specs.Prelude.{◌≡◌, ◌<◌, ◌≤◌, true, length, MatchOption, slice_set};
-ghost use Rattle.std.specs.List.{AllByRecursion as All};
+ghost use Rattle.std.specs.List.{AllByRecursion};
 ghost use Rattle.store.specs.Windows.{window_at};
 ghost use Rattle.nvalue.specs.Nvalue.{nvalue};
 ghost use Rattle.tight.specs.FirstDays.{MostIs, ReachedBefore, Refused};
@@ -29,7 +29,7 @@ pub fn can_move(days: &[u32], lot: usize, day: u32) -> bool
 
 // A day from `from` on and before `end` that a choice with the most different days, `most`, gives to a lot, or none where no such choice does.
 pub fn best_before(windows: &[Window], lot: usize, from: u32, end: u32, most: usize) -> Option<u32>
-    requires sound { All Sound windows.now }
+    requires sound { AllByRecursion Sound windows.now }
     requires few { length windows.now ≤ 256 }
     requires there { lot < length windows.now }
     requires some { from < end }

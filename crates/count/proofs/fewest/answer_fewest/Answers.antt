@@ -1,5 +1,5 @@
 use Rattle.std.proofs.Common.{◌≡◌, ◌+◌, ◌-◌, ◌<◌, map, length, take, sym, ap, ◌∙◌, subst, arith, rules}
-use Rattle.std.specs.List.{AllByRecursion as All}
+use Rattle.std.specs.List.{AllByRecursion}
 use Rattle.std.proofs.ByRecursion.{All-weaker}
 use Rattle.std.proofs.lemmas.List.{length-map, places}
 use Rattle.nvalue.proofs.Choices.{choice_length}
@@ -14,7 +14,7 @@ number_lots-requires c =
     record {
       each = search (rules, places);
       small = All-weaker (λ p. p < length c.args.windows.now) (λ p. p < 256) (λ p h. omega (arith, c.requires.few)) _
-          (subst (λ k. All (λ p. p < length c.args.windows.now) (take k c.fewest_of-count.new.lots)) (sym z) s.there);
+          (subst (λ k. AllByRecursion (λ p. p < length c.args.windows.now) (take k c.fewest_of-count.new.lots)) (sym z) s.there);
       within = c.requires.within;
     }
 

@@ -1,5 +1,5 @@
 use Rattle.std.proofs.Common.{◌≡◌, ◌-◌, length, take, sym, refl, ap, ◌∙◌, subst, arith, rules}
-use Rattle.std.specs.List.{AllByRecursion as All}
+use Rattle.std.specs.List.{AllByRecursion}
 use Rattle.std.proofs.ByRecursion.{All-drop, All-take}
 use Rattle.std.proofs.lemmas.Result.{err_from_is_err_and}
 use Rattle.count.specs.Asked.{MostAnswer}
@@ -30,7 +30,7 @@ answer_most-requires g c =
     let taken = ap (λ n. take n c.prepare.new.windows) z ∙ asked.1 in
     let long : length (take (len - 0) c.prepare.new.windows) ≡ len = ap length taken ∙ part_length _ c.args.stretch.first len asked.0.within in
     record {
-      sound = subst (All Sound) (sym taken) (All-take Sound len _ (All-drop Sound c.args.stretch.first _ asked.0.sound));
+      sound = subst (AllByRecursion Sound) (sym taken) (All-take Sound len _ (All-drop Sound c.args.stretch.first _ asked.0.sound));
       few = omega (arith, long, asked.0.few, asked.0.within);
       room = omega (arith, long, asked.0.fits);
     }

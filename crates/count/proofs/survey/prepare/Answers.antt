@@ -1,5 +1,5 @@
 use Rattle.std.proofs.Common.{◌+◌, ◌≤◌, take, sym, refl, ap, ◌∙◌, subst, arith, rules}
-use Rattle.std.specs.List.{AllByRecursion as All}
+use Rattle.std.specs.List.{AllByRecursion}
 use Rattle.store.specs.Pairs.{paired}
 use Rattle.nvalue.specs.Choices.{part}
 use Rattle.count.specs.Asked.{faulty_window}
@@ -22,7 +22,7 @@ returns g c work enough =
       record {
         words = enough;
         few = omega (arith, c.lots-lots.ensures);
-        sound = subst (All Sound) same c.in_default.ensures;
+        sound = subst (AllByRecursion Sound) same c.in_default.ensures;
         some = search rules;
         within = omega (arith, within, c.lots-lots.ensures);
         fits = omega arith;

@@ -1,5 +1,5 @@
 use Rattle.std.proofs.Common.{◌≡◌, ◌+◌, ◌*◌, length, take, Ok, refl, ap, ◌∙◌, subst, arith}
-use Rattle.std.specs.List.{AllByRecursion as All}
+use Rattle.std.specs.List.{AllByRecursion}
 use Rattle.store.specs.Pairs.{paired}
 use Rattle.store.specs.Sound.{FirstFaulty, Sound}
 use Rattle.sheet.specs.Books.{rules_of}
@@ -19,7 +19,7 @@ pub returns-then-bytes-end : goal.returns-then-bytes-end
 returns-then-bytes-end g c =
     let ws = g.S.WindowStore.windows c.args.store.now in
     let same = ap (λ n. take n (paired c.copy_windows.new.page)) c.lots-lots.ensures ∙ c.copy_windows.ensures in
-    short_bytes (omega (arith, c.lots-lots.ensures)) (omega (arith, c.lots-lots.ensures)) (subst (All Sound) same c.in_default.ensures)
+    short_bytes (omega (arith, c.lots-lots.ensures)) (omega (arith, c.lots-lots.ensures)) (subst (AllByRecursion Sound) same c.in_default.ensures)
     (omega (arith, length_file ws (rules_of c.args.book.now), c.lots-lots.ensures)) refl refl
 
 pub returns : goal.returns
@@ -31,6 +31,6 @@ returns g c =
     let was = c.args.bytes.now in
     let same : take lots (paired c.copy_windows.new.page) ≡ ws = ap (λ n. take n (paired c.copy_windows.new.page)) c.lots-lots.ensures ∙ c.copy_windows.ensures in
     let long : 4 * lots + 8 * rules + 8 ≡ length (file_of ws (rules_of book)) = omega (arith, length_file ws (rules_of book), c.lots-lots.ensures) in
-    written (omega (arith, c.lots-lots.ensures)) (omega (arith, c.lots-lots.ensures)) (subst (All Sound) same c.in_default.ensures) (omega arith) (omega (arith, rules_length book, book.few)) (ap Ok long)
+    written (omega (arith, c.lots-lots.ensures)) (omega (arith, c.lots-lots.ensures)) (subst (AllByRecursion Sound) same c.in_default.ensures) (omega arith) (omega (arith, rules_length book, book.few)) (ap Ok long)
     (over_file was c.write_lots.new.bytes c.write_rules.new.bytes _ ws (rules_of book) lots rules c.lots-lots.ensures c.rules-rules.ensures (omega arith)
     (c.write_lots.ensures ∙ ap (λ xs. over was 0 (lots_bytes xs)) same) c.write_rules.ensures c.write_trailer.ensures)

@@ -1,5 +1,5 @@
 use Rattle.std.proofs.Common.{◌≡◌, ◌-◌, length, take, sym, refl, ap, ◌∙◌, subst, arith, rules}
-use Rattle.std.specs.List.{AllByRecursion as All}
+use Rattle.std.specs.List.{AllByRecursion}
 use Rattle.std.proofs.lemmas.Result.{err_from_is_err_and}
 use Rattle.store.specs.Sound.{Sound}
 use Rattle.plan.specs.Settles.{refused}
@@ -31,7 +31,7 @@ settle_copied-requires g c =
       copied = taken;
       lots = ap length taken ∙ sym ready.0.agree.1 ∙ ready.0.agree.0.0;
       few = omega (arith, ap length taken, ready.0.few);
-      sound = subst (All Sound) (sym taken) ready.0.sound;
+      sound = subst (AllByRecursion Sound) (sym taken) ready.0.sound;
     }
 
 pub returns : goal.returns

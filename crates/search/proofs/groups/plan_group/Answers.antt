@@ -1,5 +1,5 @@
 use Rattle.std.proofs.Common.{◌≡◌, length, sym, ap, ◌∙◌, subst, arith}
-use Rattle.std.specs.List.{AllByRecursion as All}
+use Rattle.std.specs.List.{AllByRecursion}
 use Rattle.std.proofs.lemmas.Bool.{both_ways}
 use Rattle.store.specs.Sound.{Sound}
 use Rattle.search.proofs.groups.plan_group.Goals as goal
@@ -11,7 +11,7 @@ hunt-requires c =
     record {
       lots = n ∙ c.requires.lots;
       few = omega (arith, c.requires.few);
-      sound = subst (All Sound) (sym e) c.requires.sound;
+      sound = subst (AllByRecursion Sound) (sym e) c.requires.sound;
       flags = c.all_due-due.ensures.flags;
       clean = λ k h f. absurd (both_ways _ f (c.all_due-due.ensures.due k));
     }

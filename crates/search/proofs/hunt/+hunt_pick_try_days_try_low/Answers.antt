@@ -1,5 +1,5 @@
 use Rattle.std.proofs.Common.{◌≡◌, length, sym, ap, ◌∙◌, subst, arith}
-use Rattle.std.specs.List.{AllByRecursion as All}
+use Rattle.std.specs.List.{AllByRecursion}
 use Rattle.std.proofs.ByRecursion.{All-get_or, All-set}
 use Rattle.std.proofs.lemmas.List.{length-set}
 use Rattle.std.proofs.lemmas.Bool.{false≢true, true≢false, both_ways}
@@ -60,7 +60,7 @@ try_low-hunt-requires t c =
         (
           omega (arith, c.requires.few),
           (
-            subst (All Sound) (sym e) sound,
+            subst (AllByRecursion Sound) (sym e) sound,
             (
               omega (arith, c.due_over.auto.due, c.requires.flags),
               λ k h d. subst (λ vs. FirmRule vs (rule_at rules k)) (sym e) (firm_other ws lot (window day day) (rule_at rules k) (c.due_over.ensures k h d) (All-get_or (FirmRule ws) rules k (row 0 0 0 0) h c.requires.firm.each)),

@@ -1,5 +1,5 @@
 use Rattle.std.proofs.Common.{◌<◌, length, sym, ap, subst, arith}
-use Rattle.std.specs.List.{AllByRecursion as All}
+use Rattle.std.specs.List.{AllByRecursion}
 use Rattle.std.proofs.ByRecursion.{All-get_or, All-more}
 use Rattle.std.proofs.lemmas.List.{take_all}
 use Rattle.std.proofs.lemmas.Bool.{false≢true}
@@ -40,4 +40,4 @@ returns c =
     let ds = c.args.days.now in
     let rules = rules_of c.args.book.now in
     let e = take_all c.loop-number.number rules (omega (arith, c.rules-number-end.ensures)) in
-    (λ _. subst (All (Keeps ds)) e c.loop-number.invariant, λ _. cc)
+    (λ _. subst (AllByRecursion (Keeps ds)) e c.loop-number.invariant, λ _. cc)

@@ -1,6 +1,6 @@
 -- The mirror image of sound windows is sound, so it has points too.
 use Rattle.std.proofs.Common.{◌≡◌, length, sym, ap, ◌∙◌, subst, arith}
-use Rattle.std.specs.List.{AllByRecursion as All}
+use Rattle.std.specs.List.{AllByRecursion}
 use Rattle.std.proofs.lemmas.List.{length-map}
 use Rattle.extremes.specs.Mirror.{mirrored}
 use Rattle.store.specs.Sound.{Sound}
@@ -13,7 +13,7 @@ points_of-image_count-requires c =
     let e = c.mirror_windows.ensures in
     let long : length c.mirror_windows.new.image ≡ length ws = ap length e ∙ length-map ws mirrored in
     record {
-      sound = subst (All Sound) (sym e) (sound_mirrored ws c.requires.sound);
+      sound = subst (AllByRecursion Sound) (sym e) (sound_mirrored ws c.requires.sound);
       few = omega (arith, c.requires.few);
       room = omega (arith, c.requires.few);
     }

@@ -1,6 +1,6 @@
 -- The points are the last days of the witnesses that `fewest_of` finds.
 use Rattle.std.proofs.Common.{◌≡◌, ◌-◌, ◌<◌, length, take, sym, ap, ◌∙◌, subst, arith, rules}
-use Rattle.std.specs.List.{AllByRecursion as All}
+use Rattle.std.specs.List.{AllByRecursion}
 use Rattle.std.proofs.lemmas.List.{length-append, length-map, places, take_at}
 use Rattle.extremes.specs.Points.{lasts, Points}
 use Rattle.tight.proofs.fewest_hull.points_of.Goals as goal
@@ -10,7 +10,7 @@ last_days-requires c =
     let m = c.fewest_of-count.result in
     let z : m - 0 ≡ m = omega arith in
     record {
-      there = subst (λ k. All (λ lot. lot < length c.args.windows.now) (take k c.fewest_of-count.new.lots)) (sym z) c.fewest_of-count.ensures.shown.there;
+      there = subst (λ k. AllByRecursion (λ lot. lot < length c.args.windows.now) (take k c.fewest_of-count.new.lots)) (sym z) c.fewest_of-count.ensures.shown.there;
       each = search (rules, places);
     }
 

@@ -1,6 +1,6 @@
 -- A best choice of the mirror image is the mirror image of a best choice.
 use Rattle.std.proofs.Common.{sym, subst, arith}
-use Rattle.std.specs.List.{AllByRecursion as All}
+use Rattle.std.specs.List.{AllByRecursion}
 use Rattle.tight.specs.FirstDays.{Best}
 use Rattle.store.specs.Sound.{Sound}
 use Rattle.tight.proofs.Firsts.{best_back}
@@ -11,7 +11,7 @@ pub best_from_left-requires : goal.best_from_left-requires
 best_from_left-requires c =
     let ws = c.args.windows.now in
     record {
-      sound = subst (All Sound) (sym c.mirror_windows.ensures) (sound_mirrored ws c.requires.sound);
+      sound = subst (AllByRecursion Sound) (sym c.mirror_windows.ensures) (sound_mirrored ws c.requires.sound);
       few = omega (arith, c.requires.few, c.mirror_windows.auto.image);
       each = omega (arith, c.requires.each, c.mirror_windows.auto.image);
     }

@@ -1,6 +1,6 @@
 -- The first days of the mirror image are the mirror image of the last days.
 use Rattle.std.proofs.Common.{sym, subst, arith}
-use Rattle.std.specs.List.{AllByRecursion as All}
+use Rattle.std.specs.List.{AllByRecursion}
 use Rattle.tight.specs.FirstDays.{FirstDays, LastDays}
 use Rattle.store.specs.Sound.{Sound}
 use Rattle.tight.proofs.Firsts.{last_days_lem}
@@ -9,7 +9,7 @@ use Rattle.tight.proofs.most_hull.last_days.Goals as goal
 
 pub first_days-requires : goal.first_days-requires
 first_days-requires c = record {
-  sound = subst (All Sound) (sym c.mirror_windows.ensures) (sound_mirrored c.args.windows.now c.requires.sound);
+  sound = subst (AllByRecursion Sound) (sym c.mirror_windows.ensures) (sound_mirrored c.args.windows.now c.requires.sound);
   few = omega (arith, c.requires.few, c.mirror_windows.auto.image);
   each = omega (arith, c.requires.each, c.mirror_windows.auto.image);
 }
