@@ -1,5 +1,75 @@
-// C calls for the benchmarks under bench/.
+// C calls to the counting functions, for the benchmark under bench/. Windows are words, low and high of each lot in turn.
 #![tactic(auto)]
 
-pub mod counting;
 pub mod planning;
+
+ghost use Rattle.std.specs.Prelude.{◌⊎◌, ◌≡◌, ℕ};
+ghost use Rattle.store.specs.Pairs.{paired};
+ghost use Rattle.nvalue.specs.Choices.{part};
+ghost use Rattle.tight.specs.Tight.{Tightest};
+ghost use Rattle.count.specs.Asked.{FewestAnswer, MostAnswer};
+
+use bottom::words::WordStore;
+use count::fewest::fewest;
+use count::most::most;
+use nvalue::count_window::CountWindow;
+use nvalue::stretch::Stretch;
+use store::window::Window;
+use tight::tight::tighten;
+
+// The fewest days of the first `lots` lots, 0 where the question is refused.
+#[unsafe(no_mangle)]
+pub extern "C" fn bench_fewest(
+    words: &mut [u32],
+    lots: usize,
+    answer: &mut [u32],
+    work: &mut [u32],
+) -> usize
+    ensures { (result ≡ 0) ⊎ FewestAnswer (part (paired words.old) 0 lots) 0 answer.old answer.new result }
+{
+    let all = Stretch {
+        first: 0,
+        length: lots,
+    };
+    match fewest(&WordStore::new(words), all, answer, work) {
+        Ok(count) => count,
+        Err(_) => 0,
+    }
+}
+
+// The most days of the first `lots` lots, 0 where the question is refused.
+#[unsafe(no_mangle)]
+pub extern "C" fn bench_most(
+    words: &mut [u32],
+    lots: usize,
+    answer: &mut [u32],
+    work: &mut [u32],
+) -> usize
+    ensures { (result ≡ 0) ⊎ ((s : ℕ) × MostAnswer (part (paired words.old) 0 lots) answer.old answer.new result s) }
+{
+    let all = Stretch {
+        first: 0,
+        length: lots,
+    };
+    match most(&WordStore::new(words), all, answer, work) {
+        Ok(shown) => shown.count,
+        Err(_) => 0,
+    }
+}
+
+// Narrows windows to the tightest for a count window, and gives the new ceiling; 0 where no choice is left or the question is refused.
+#[unsafe(no_mangle)]
+pub extern "C" fn bench_tighten(windows: &mut [Window], floor: u32, ceiling: u32) -> u32
+    ensures { (result ≡ 0) ⊎ ((least : ℕ) × Tightest windows.old floor ceiling windows.new least result) }
+{
+    let Some(count) = CountWindow::new(floor, ceiling) else {
+        return 0;
+    };
+    let Ok(answer) = tighten(windows, count) else {
+        return 0;
+    };
+    match answer {
+        Some(tight) => tight.ceiling(),
+        None => 0,
+    }
+}
