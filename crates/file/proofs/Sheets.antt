@@ -8,7 +8,7 @@ use Rattle.rules.specs.declared.row.Row.{Row}
 use Rattle.sheet.specs.Books.{row}
 use Rattle.file.specs.declared.fault.FileFault.{FileFault}
 use Rattle.file.specs.declared.read.Contents.{Contents}
-use Rattle.file.specs.Format.{two, lots_bytes, rules_bytes, trailer, file_of}
+use Rattle.file.specs.Format.{lots_bytes, rules_bytes, trailer, file_of}
 use Rattle.file.specs.Reads.{Reads, Ends, Agrees, lots_in, rules_in, place_in, no_sheet_file, trailer_disagrees, short_words, held}
 use Rattle.file.proofs.Bytes.{length_lots, length_rules}
 

@@ -1,4 +1,4 @@
-use Rattle.std.proofs.Common.{◌≡◌, ◌≤◌, length, take, vec_items, vec_len, vec_capacity}
+use Rattle.std.proofs.Common.{◌≡◌, take, vec_items, vec_len, vec_capacity}
 use Rattle.plan.specs.Calls.{Runs, state}
 use Rattle.plan.proofs.run.make_each.Given as goal
 

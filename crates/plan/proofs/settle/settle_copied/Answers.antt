@@ -1,6 +1,5 @@
-use Rattle.std.proofs.Common.{List, sym, refl, ◌∙◌, subst}
+use Rattle.std.proofs.Common.{sym, refl, ◌∙◌, subst}
 use Rattle.std.specs.List.{AllZip}
-use Rattle.store.specs.declared.window.Window.{Window}
 use Rattle.rules.specs.Firm.{GreatestFirm, Narrower, NoFirm}
 use Rattle.sheet.specs.Books.{rules_of}
 use Rattle.plan.specs.Settles.{no_firm_windows, settled}
