@@ -5,5 +5,5 @@ pub mod fault;
 pub mod laws;
 mod numbers;
 pub mod read;
-pub mod rules;
+pub mod rows;
 pub mod write;

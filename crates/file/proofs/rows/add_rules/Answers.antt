@@ -3,7 +3,7 @@ use Rattle.std.proofs.lemmas.Result.{err_from_is_err_and}
 use Rattle.sheet.specs.Drafts.{AddsAll}
 use Rattle.file.specs.Rows.{told}
 use Rattle.file.proofs.Adding.{adds_bytes}
-use Rattle.file.proofs.rules.add_rules.Goals as goal
+use Rattle.file.proofs.rows.add_rules.Goals as goal
 
 pub returns-in_err-add_rows : goal.returns-in_err-add_rows
 returns-in_err-add_rows c =

@@ -1,6 +1,6 @@
 use Rattle.std.proofs.Common.{◌*◌, ◌∙◌}
 use Rattle.file.proofs.Adding.{row_from}
-use Rattle.file.proofs.rules.row_at.Goals as goal
+use Rattle.file.proofs.rows.row_at.Goals as goal
 
 pub returns : goal.returns
 returns c =
