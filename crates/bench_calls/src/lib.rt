@@ -12,9 +12,9 @@ ghost use Rattle.count.specs.Asked.{FewestAnswer, MostAnswer};
 use bottom::words::WordStore;
 use count::fewest::fewest;
 use count::most::most;
-use nvalue::count_window::CountWindow;
-use nvalue::stretch::Stretch;
+use count::stretch::Stretch;
 use store::window::Window;
+use tight::count_window::CountWindow;
 use tight::tight::tighten;
 
 // The fewest days of the first `lots` lots, 0 where the question is refused.

@@ -4,7 +4,7 @@ use calendar::period::{Period, PeriodLength};
 use count::fault::CountFault;
 use count::fewest::fewest;
 use count::most::most;
-use nvalue::stretch::Stretch;
+use count::stretch::Stretch;
 use std::io;
 use store::store::WindowStore;
 

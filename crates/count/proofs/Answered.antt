@@ -21,15 +21,15 @@ written was days more n m e =
     ap (λ xs. xs ++ (more ++ drop (n + m - n) (drop n (days ++ drop (n - 0) was)))) (take_at days (drop (n - 0) was) n e)
     ∙ ap (λ xs. days ++ (more ++ xs)) after
 
-module _ (days more rest : List ℕ) (n m : ℕ) (days-are : length days ≡ n) (more-are : length more ≡ m) where
+module _ (days more rest : List ℕ) (n m : ℕ) (days_are : length days ≡ n) (more_are : length more ≡ m) where
   pub written_days : take n (days ++ (more ++ rest)) ≡ days
-  written_days = take_at days (more ++ rest) n days-are
+  written_days = take_at days (more ++ rest) n days_are
 
   pub written_more : part (days ++ (more ++ rest)) n m ≡ more
-  written_more = ap (take m) (drop_at days (more ++ rest) n days-are) ∙ take_at more rest m more-are
+  written_more = ap (take m) (drop_at days (more ++ rest) n days_are) ∙ take_at more rest m more_are
 
   pub written_rest : drop (n + m) (days ++ (more ++ rest)) ≡ rest
-  written_rest = sym (drop-drop m n (days ++ (more ++ rest))) ∙ ap (drop m) (drop_at days (more ++ rest) n days-are) ∙ drop_at more rest m more-are
+  written_rest = sym (drop-drop m n (days ++ (more ++ rest))) ∙ ap (drop m) (drop_at days (more ++ rest) n days_are) ∙ drop_at more rest m more_are
 
 -- lot numbers give their places back
 places_back : (first : ℕ) (ps : List ℕ) → map (λ lot. lot - first) (map (λ p. first + p) ps) ≡ ps

@@ -3,8 +3,8 @@ use bottom::words::WordStore;
 use calendar::period::{Period, PeriodLength};
 use count::fewest::fewest;
 use count::most::{Most, most};
+use count::stretch::Stretch;
 use nvalue::count::different_days;
-use nvalue::stretch::Stretch;
 use std::test::Fail;
 
 const NONE: u32 = 99_999;

@@ -3,7 +3,7 @@ use bottom::words::WordStore;
 use count::fault::CountFault;
 use count::fewest::fewest;
 use count::most::{Most, most};
-use nvalue::stretch::Stretch;
+use count::stretch::Stretch;
 
 #[test]
 fn too_few_working_words(rt: HostRuntime) {

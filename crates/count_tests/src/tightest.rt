@@ -1,8 +1,8 @@
 // One rule's tightest windows.
 use count::fault::CountFault;
-use nvalue::count_window::CountWindow;
 use std::test::Fail;
 use store::window::Window;
+use tight::count_window::CountWindow;
 use tight::tight::tighten;
 
 fn window(low: u32, high: u32) -> Window {

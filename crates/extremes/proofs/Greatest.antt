@@ -67,7 +67,7 @@ loads_surplus ws os [] h = omega arith
 loads_surplus ws os (r ∷ rs) (h, hs) = let i = loads_surplus ws os rs hs in omega (arith, sum_by-cons (λ q. load q os) r rs)
 
 module _ (ws : List Window) (order : List (ℕ × ℕ)) (shuffled : IsPermutation (slots 0 ws) order) (t : ℕ) (taken : List Bool) (days : List ℕ) (runs : List Window) (most : Most)
-    (p : Packing ws order t taken days runs most) (done : t ≡ length ws) (day-each : length days ≡ length ws) (room : most.runs ≤ length runs) where
+    (p : Packing ws order t taken days runs most) (done : t ≡ length ws) (day_each : length days ≡ length ws) (room : most.runs ≤ length runs) where
   -- each lot has taken a day or is left over
   total : (f : Window → ℕ) → sum_by f (windows_of p.takers) + sum_by f p.overs ≡ sum_by f ws
   total f =
@@ -115,7 +115,7 @@ module _ (ws : List Window) (order : List (ℕ × ℕ)) (shuffled : IsPermutatio
 
   days_choice : Choice ws days
   days_choice =
-      choice_from_get_or ws days day-each (λ i l.
+      choice_from_get_or ws days day_each (λ i l.
       let s = slot_of ws order shuffled i l in
       subst (λ lot. In (window_at ws lot) (get_or days lot 0)) s.2 (p.chosen.chosen s.0 (omega (arith, s.1))))
 

@@ -94,7 +94,7 @@ module _ (taken : List Bool) (runs : List Window) (top : ℕ) (ts : List Taker) 
   }
 
   -- no day of the window is free: the run of taken days from `start` to the window's last day is put in the place of the runs from `top'` on
-  module _ (start top' : ℕ) (room : top' < length runs) (wide : start ≤ w.low) (taken-all : (d : ℕ) → start ≤ d → d ≤ w.high → Taken taken d) (edge : 0 < start → Free taken (start - 1)) where
+  module _ (start top' : ℕ) (room : top' < length runs) (wide : start ≤ w.low) (taken_all : (d : ℕ) → start ≤ d → d ≤ w.high → Taken taken d) (edge : 0 < start → Free taken (start - 1)) where
     edge_free : 0 < start → has (start - 1) (days_of ts) ≡ 0
     edge_free h = let f = edge h in let m = p.marks (start - 1) in grind arith
 
@@ -120,11 +120,11 @@ module _ (taken : List Bool) (runs : List Window) (top : ℕ) (ts : List Taker) 
     -- so the runs that are left end before the new one
     all_end_before : top' ≤ top → (0 < top' → (window_at runs (top' - 1)).low < start) → (j : ℕ) → j < top' → (window_at runs j).high < start
     all_end_before fewer left j b =
-        let last-run = ends_before (top' - 1) (omega arith) (left (omega arith)) in
+        let last_run = ends_before (top' - 1) (omega arith) (left (omega arith)) in
         let earlier : j < top' - 1 → (window_at runs j).high < start = λ l. omega (arith, p.rising j (top' - 1) l (omega arith), left (omega arith)) in
         elim (cases_lt j (top' - 1)) [
           | inl l ↦ earlier l
-          | inr l ↦ let e : top' - 1 ≡ j = omega arith in subst (λ k. (window_at runs k).high < start) e last-run
+          | inr l ↦ let e : top' - 1 ≡ j = omega arith in subst (λ k. (window_at runs k).high < start) e last_run
         ]
 
     -- the runs after the turn
@@ -162,7 +162,7 @@ module _ (taken : List Bool) (runs : List Window) (top : ℕ) (ts : List Taker) 
           (window start w.high)
           room
           (λ k b. let f = p.full k (omega arith) in (f.0, omega (arith, f.1)))
-          (λ e a b. let m = p.marks e in let t = taken-all e a b in let f = run_filled e a b ts p.early in grind (arith, nat_tests, has_le_one), grind (arith, nat_tests));
+          (λ e a b. let m = p.marks e in let t = taken_all e a b in let f = run_filled e a b ts p.early in grind (arith, nat_tests, has_le_one), grind (arith, nat_tests));
       rising = λ j k a b.
           let after = all_end_before fewer left j (omega arith) in
           let same : (window_at runs' j).high ≡ (window_at runs j).high = ap (λ r. r.high) (old_run j (omega arith)) in
@@ -204,9 +204,9 @@ chosen_more ws order t days was is d c other there inside-it grown =
           (λ k l. subst (λ x. has x is ≡ 1) (old k l) (still (get_or days (place k) 0) (c.known k l)))
           (subst (λ x. has x is ≡ 1) new (let g = grown d in grind (arith, nat_tests)));
       used = λ x h.
-          let was-used : has x was ≡ 1 → (k : ℕ) × (k < t + 1) × (get_or days' (place k) 0 ≡ x) = λ e. let u = c.used x e in (u.0, omega (arith, u.1), sym (old u.0 u.1) ∙ u.2) in
+          let was_used : has x was ≡ 1 → (k : ℕ) × (k < t + 1) × (get_or days' (place k) 0 ≡ x) = λ e. let u = c.used x e in (u.0, omega (arith, u.1), sym (old u.0 u.1) ∙ u.2) in
           elim (cases_eq x d) [
             | inl e ↦ (t, omega arith, sym new ∙ sym e)
-            | inr n ↦ was-used (let g = grown x in grind (arith, nat_tests))
+            | inr n ↦ was_used (let g = grown x in grind (arith, nat_tests))
           ];
     }

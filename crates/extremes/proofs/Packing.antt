@@ -65,7 +65,7 @@ packing_none ws order days runs = record {
 
 module _ (ws : List Window) (order : List (ℕ × ℕ)) (shuffled : IsPermutation (slots 0 ws) order) (rises : IsNonDecreasingBy (λ s. s.0) order) (sound : AllByRecursion Sound ws)
     (t : ℕ) (taken : List Bool) (days : List ℕ) (runs : List Window) (most : Most) (p : Packing ws order t taken days runs most)
-    (more : t < length ws) (day-each : length days ≡ length ws) (run_room : length ws ≤ length runs) (day : ℕ) (taken' : List Bool) (runs' : List Window) (most' : Most) where
+    (more : t < length ws) (day_each : length days ≡ length ws) (run_room : length ws ≤ length runs) (day : ℕ) (taken' : List Bool) (runs' : List Window) (most' : Most) where
   -- the next lot's window ends no earlier than those before, and no later than those to come
   next_later : p.last ≤ (window_at ws (lot_in_file order t)).high
   next_later = omega (arith, p.ahead t (omega arith) (omega (arith, length_order ws order shuffled)), slot_high ws order shuffled t more)

@@ -41,7 +41,7 @@ pointed_none ws order days lots = record {
 
 module _ (ws : List Window) (order : List (ℕ × ℕ)) (days lots : List ℕ) (t count point : ℕ) (p : Pointed ws order days lots t count point)
     (sound : AllByRecursion Sound ws) (shuffled : IsPermutation (slots 0 ws) order) (rises : IsNonDecreasingBy (λ s. s.0) order) (in' : t < length ws)
-    (day-each : length days ≡ length ws) (room : length ws ≤ length lots) where
+    (day_each : length days ≡ length ws) (room : length ws ≤ length lots) where
   abbrev place : ℕ
   place = (get_or order t (0, 0)).1
 
@@ -144,7 +144,7 @@ disjoint_from_get_or (w ∷ ws) apart = (
 
 -- once every slot is served, the points show the least count
 module _ (ws : List Window) (order : List (ℕ × ℕ)) (days lots : List ℕ) (count point : ℕ) (p : Pointed ws order days lots (length ws) count point)
-    (shuffled : IsPermutation (slots 0 ws) order) (day-each : length days ≡ length ws) (room : length ws ≤ length lots) where
+    (shuffled : IsPermutation (slots 0 ws) order) (day_each : length days ≡ length ws) (room : length ws ≤ length lots) where
   served : (i : ℕ) → i < length ws → Served ws lots count i (get_or days i 0)
   served i h =
       let s = slot_of ws order shuffled i h in
@@ -169,7 +169,7 @@ module _ (ws : List Window) (order : List (ℕ × ℕ)) (days lots : List ℕ) (
       (subst (λ w. (window_at ws (get_or lots i 0)).high < w.low) (sym (shown j b)) (p.apart i j l b)))
 
   chosen : Choice ws days
-  chosen = choice_from_get_or ws days day-each (λ i h. (served i h).0)
+  chosen = choice_from_get_or ws days day_each (λ i h. (served i h).0)
 
   bound : (ds : List ℕ) → Choice ws ds → count ≤ nvalue ds
   bound ds c = omega (arith, disjoint_bound ws ds (take count lots) c all_there apart, many)

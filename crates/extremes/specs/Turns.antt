@@ -13,17 +13,17 @@ abbrev pub Free : List Bool → ℕ → Type 0
 Free taken d = slice_index_or taken d false ≡ false
 
 -- the lot takes the first free day of its window
-pub record Takes (w : Window) (day : ℕ) (taken : List Bool) (runs : List Window) (most : Most) (is-taken : List Bool) (is-runs : List Window) (is : Most) : Type 0 where
+pub record Takes (w : Window) (day : ℕ) (taken : List Bool) (runs : List Window) (most : Most) (is_taken : List Bool) (is_runs : List Window) (is : Most) : Type 0 where
   pub inside : In w day
   pub free : Free taken day
   pub first : (d : ℕ) → w.low ≤ d → d < day → Taken taken d
-  pub marked : is-taken ≡ slice_set taken day true
-  pub same : is-runs ≡ runs
+  pub marked : is_taken ≡ slice_set taken day true
+  pub same : is_runs ≡ runs
   pub count : is.count ≡ most.count + 1
   pub top : is.runs ≡ most.runs
 
 -- no day of the window is free: the unbroken run of taken days up to the window's last one takes the place of the runs in it
-pub record LeftOver (w : Window) (day : ℕ) (taken : List Bool) (runs : List Window) (most : Most) (is-taken : List Bool) (is-runs : List Window) (is : Most) : Type 0 where
+pub record LeftOver (w : Window) (day : ℕ) (taken : List Bool) (runs : List Window) (most : Most) (is_taken : List Bool) (is_runs : List Window) (is : Most) : Type 0 where
   pub start : ℕ
   pub kept : ℕ
   pub lowest : day ≡ w.low
@@ -33,11 +33,11 @@ pub record LeftOver (w : Window) (day : ℕ) (taken : List Bool) (runs : List Wi
   pub fewer : kept ≤ most.runs
   pub gone : (k : ℕ) → kept ≤ k → k < most.runs → start ≤ (window_at runs k).low
   pub left : 0 < kept → (window_at runs (kept - 1)).low < start
-  pub same : is-taken ≡ taken
-  pub pushed : is-runs ≡ slice_set runs kept (window start w.high)
+  pub same : is_taken ≡ taken
+  pub pushed : is_runs ≡ slice_set runs kept (window start w.high)
   pub count : is.count ≡ most.count
   pub top : is.runs ≡ kept + 1
 
 abbrev pub Turn : Window → ℕ → List Bool → List Window → Most → List Bool → List Window → Most → Type 0
-Turn w day taken runs most is-taken is-runs is =
-    Takes w day taken runs most is-taken is-runs is ⊎ LeftOver w day taken runs most is-taken is-runs is
+Turn w day taken runs most is_taken is_runs is =
+    Takes w day taken runs most is_taken is_runs is ⊎ LeftOver w day taken runs most is_taken is_runs is

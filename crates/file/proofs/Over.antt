@@ -81,9 +81,9 @@ module _ (was : List ℕ) (n : ℕ) where
   pub over_record : (b₁ b₂ b₃ is : List ℕ) (a b c : ℕ) (text : List ℕ) → n + 6 ≤ length was → b₁ ≡ over was n (two a) → b₂ ≡ over b₁ (n + 2) (two b) → b₃ ≡ over b₂ (n + 4) (two c) → is ≡ over b₃ (n + 6) text
       → is ≡ over was n (two a ++ (two b ++ (two c ++ text)))
   over_record b₁ b₂ b₃ is a b c text room e₁ e₂ e₃ e =
-      let two-done = over_more was b₁ b₂ n (n + 2) (two a) (two b) (omega arith) refl e₁ e₂ in
-      let three-done = over_more was b₂ b₃ n (n + 4) (two a ++ two b) (two c) (omega arith) refl two-done e₃ in
-      over_more was b₃ is n (n + 6) (two a ++ (two b ++ two c)) text (omega arith) refl three-done e
+      let two_done = over_more was b₁ b₂ n (n + 2) (two a) (two b) (omega arith) refl e₁ e₂ in
+      let three_done = over_more was b₂ b₃ n (n + 4) (two a ++ two b) (two c) (omega arith) refl two_done e₃ in
+      over_more was b₃ is n (n + 6) (two a ++ (two b ++ two c)) text (omega arith) refl three_done e
 
   -- the letters at the end
   pub over_letters : (a b : ℕ) → n + 8 ≤ length was → set (set was (n + 6) a) (n + 7) b ≡ over was (n + 6) (a ∷ b ∷ [])

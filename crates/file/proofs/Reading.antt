@@ -72,8 +72,8 @@ module _ (file was is : List ℕ) (byte : Bytes file) (ends : Ends file) (agrees
       ∙ end_is file byte ends
       ∙ ap (λ k. two k ++ (two (lots_in file) ++ (two (rules_in file) ++ (72 ∷ 68 ∷ [])))) place
       ∙ ap₂ (λ k j. two (4 * length ws) ++ (two k ++ (two j ++ (72 ∷ 68 ∷ [])))) (sym en ∙ sym some) (sym em ∙ sym many) in
-      let file-is : file ≡ file_of ws rows =
+      let file_is : file ≡ file_of ws rows =
       sym (take-append-drop (4 * n) file)
       ∙ ap₂ (λ x y. x ++ y) (sym bytes) (sym (take-append-drop (8 * m) tail) ∙ ap₂ (λ x y. x ++ y) (sym back) last) in
-      held ws rows h ends agrees (omega arith) few (rows_small m tail byte') file-is (omega (arith, agrees.2)) (omega (arith, agrees.3)) refl (el ∙ sym some) (er ∙ sym many) (part ∙ sym back)
+      held ws rows h ends agrees (omega arith) few (rows_small m tail byte') file_is (omega (arith, agrees.2)) (omega (arith, agrees.3)) refl (el ∙ sym some) (er ∙ sym many) (part ∙ sym back)
       (ap (λ k. paired (take (2 * k) is)) some) (ap (λ k. drop (2 * k) is) some ∙ rest ∙ sym (ap (λ k. drop (2 * k) was) some))

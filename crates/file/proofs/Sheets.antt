@@ -92,6 +92,6 @@ module _ (vs : List Window) (qs : List Row) (was : List ℕ) (r : Result Content
   read_back (no_sheet_file no_end _ _) = absurd (no_end (file_ends vs qs))
   read_back (trailer_disagrees _ differs _ _) = absurd (differs (file_agrees vs qs few some).1)
   read_back (short_words _ _ short _ _) = absurd (omega (arith, (file_agrees vs qs few some).0))
-  read_back (held ws rows h _ _ _ _ _ file-is _ _ ok lots rules part words _) =
-      let same = one_sheet vs ws qs rows file-is in
+  read_back (held ws rows h _ _ _ _ _ file_is _ _ ok lots rules part words _) =
+      let same = one_sheet vs ws qs rows file_is in
       (h, ok, lots ∙ sym (ap length same.0), rules ∙ sym (ap length same.1), part ∙ sym (ap rules_bytes same.1), ap (λ xs. paired (take (2 * length xs) is)) same.0 ∙ words ∙ sym same.0)

@@ -164,15 +164,15 @@ module _ (ws is : List Window) (rules : List Row) (k least most : ℕ) (there : 
       let or = ordered ws rules k there vs qs firm inside in
       let same : stretch q vs ≡ stretch r vs = stretch_same q r vs st.first st.length in
       let many : length vs ≡ length ws = length_all_zip Narrower vs ws inside.windows in
-      let long-part : length (stretch q vs) ≡ r.length = ap length same ∙ part_length vs r.first r.length (omega arith) in
-      let long-now : length (stretch r is) ≡ r.length = part_length is r.first r.length (omega arith) in
+      let long_part : length (stretch q vs) ≡ r.length = ap length same ∙ part_length vs r.first r.length (omega arith) in
+      let long_now : length (stretch r is) ≡ r.length = part_length is r.first r.length (omega arith) in
       let was : (ds : List ℕ) → Choice (stretch q vs) ds → Choice (stretch r ws) ds = allowed ws rules k there vs qs firm inside in
       let counts : (ds : List ℕ) → Counts q.floor q.ceiling ds → Counts r.floor r.ceiling ds = counted ws rules k there vs qs firm inside in
       let low = fr.floor in
       let high = fr.ceiling in
-      let least-below = tight.between low.0 (was low.0 low.1) (counts low.0 (omega (arith, low.2), omega (arith, low.2))) in
-      let most-above = tight.between high.0 (was high.0 high.1) (counts high.0 (omega (arith, high.2), omega (arith, high.2))) in
-      let rule : Stricter q (recounted r least most) = record { first = st.first; length = st.length; floor = omega (arith, least-below.0, low.2); ceiling = omega (arith, most-above.1, high.2) } in
+      let least_below = tight.between low.0 (was low.0 low.1) (counts low.0 (omega (arith, low.2), omega (arith, low.2))) in
+      let most_above = tight.between high.0 (was high.0 high.1) (counts high.0 (omega (arith, high.2), omega (arith, high.2))) in
+      let rule : Stricter q (recounted r least most) = record { first = st.first; length = st.length; floor = omega (arith, least_below.0, low.2); ceiling = omega (arith, most_above.1, high.2) } in
       record {
         windows =
             each_from_get_or Narrower vs is (window 0 0) (omega arith) (λ i h. elim (outside_or_in r.first r.length i) [

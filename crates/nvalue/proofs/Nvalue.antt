@@ -11,13 +11,13 @@ pub has_le_one : (x : ℕ) (xs : List ℕ) → has x xs ≤ 1
 has_le_one x [] = omega arith
 has_le_one x (y ∷ ys) = grind (arith, nat_tests, has_le_one x ys)
 
--- a value that the shelf's `Has` finds occurs
+-- a value that the library's `ContainsAt` (`Has` here) finds occurs
 pub has_from : (x : ℕ) (xs : List ℕ) → Has xs x → has x xs ≡ 1
 has_from x [] (k, l, e) = absurd (omega arith)
 has_from x (y ∷ ys) (zero, l, e) = grind (arith, nat_tests, e 0)
 has_from x (y ∷ ys) (suc k, l, e) = grind (arith, nat_tests, has_from x ys (k, omega arith, e))
 
--- a value that occurs is one that the shelf's `Has` finds
+-- a value that occurs is one that it finds
 pub has_to : (x : ℕ) (xs : List ℕ) → has x xs ≡ 1 → Has xs x
 has_to x [] e = absurd (omega arith)
 has_to x (y ∷ ys) e =

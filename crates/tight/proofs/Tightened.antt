@@ -106,13 +106,13 @@ answered X ws is floor ceiling f c (Some w) e le t =
 
 -- the same from the numbers as a function has them
 module _ (ws is : List Window) (least most fl ce floor ceiling f c : ℕ) (lo : IsLeast ws least) (hi : IsGreatest ws most) (ordered : floor ≤ ceiling)
-    (fl-is : fl ≡ floor) (ce-is : ce ≡ ceiling) (f-is : f ≡ max fl least) (c-is : c ≡ min ce most) where
+    (fl_is : fl ≡ floor) (ce_is : ce ≡ ceiling) (f_is : f ≡ max fl least) (c_is : c ≡ min ce most) where
   pub tightened : (X : Type 0) → least ≤ ce → fl ≤ most → Hull ws (Counts fl ce) is → (o : Option CountWindow) → MatchOption o (c < f) (λ w. (w.floor ≡ f) × (w.ceiling ≡ c))
       → MatchOption o X (λ w. Tightest ws floor ceiling is w.floor w.ceiling)
   tightened X a b hull o made =
-      let h : Hull ws (Counts floor ceiling) is = subst (λ n. Hull ws (Counts n ceiling) is) fl-is (subst (λ n. Hull ws (Counts fl n) is) ce-is hull) in
+      let h : Hull ws (Counts floor ceiling) is = subst (λ n. Hull ws (Counts n ceiling) is) fl_is (subst (λ n. Hull ws (Counts fl n) is) ce_is hull) in
       let t = tightest ws least most floor ceiling lo hi ordered (omega arith) (omega arith) is h in
-      let ef : f ≡ max floor least = f-is ∙ ap (λ n. max n least) fl-is in
-      let ec : c ≡ min ceiling most = c-is ∙ ap (λ n. min n most) ce-is in
+      let ef : f ≡ max floor least = f_is ∙ ap (λ n. max n least) fl_is in
+      let ec : c ≡ min ceiling most = c_is ∙ ap (λ n. min n most) ce_is in
       answered X ws is floor ceiling f c o made (omega (arith, lo.least hi.reached.0 hi.reached.1, hi.reached.2))
       (subst (λ n. Tightest ws floor ceiling is n c) (sym ef) (subst (λ n. Tightest ws floor ceiling is (max floor least) n) (sym ec) t))

@@ -6,3 +6,6 @@ mod first_days;
 mod most_hull;
 pub mod tight;
 mod trial;
+
+// Count windows stand in the crate of counting; callers of `tighten` find them here too.
+pub use nvalue::count_window;
