@@ -22,7 +22,7 @@ pub record AddsTo (lots : ℕ) (rows : List Row) (r : Result (Unit {0}) SheetFau
   pub slip : Draft
   pub book : Book
   pub none : rules_of empty ≡ []
-  pub lots : lots_of empty ≡ lots
+  pub sized : lots_of empty ≡ lots
   pub adds : AddsAll rows (draft lots 0) empty r slip book
 
 -- a file of lots and rules that are all accepted
@@ -33,12 +33,17 @@ pub record Accepted (file : List ℕ) (ws : List Window) (rows : List Row) : Typ
   pub sound : AllByRecursion Sound ws
   pub adds : AddsTo (length ws) rows (Ok tt)
 
+-- What planning a sheet of these windows and rules gives.
+pub data PlansSheet (ws : List Window) (rows : List Row) (was : List ℕ) (r : Result ℕ FileFault) (is : List ℕ) : Type 0 where
+  faulty_window : (lot : ℕ) → FirstFaulty ws lot → r ≡ Err (Sheet (sheet.FaultyWindow lot)) → is ≡ was → PlansSheet ws rows was r is
+  rule_refused : (why : SheetFault) → AllByRecursion Sound ws → AddsTo (length ws) rows (Err why) → r ≡ Err (Sheet why) → is ≡ was → PlansSheet ws rows was r is
+  short_answer : AllByRecursion Sound ws → AddsTo (length ws) rows (Ok tt) → length was < length ws → r ≡ Err (Sheet sheet.ShortAnswer) → is ≡ was → PlansSheet ws rows was r is
+  no_plan : AllByRecursion Sound ws → AddsTo (length ws) rows (Ok tt) → length ws ≤ length was → NoPlan ws rows → r ≡ Err (Sheet sheet.NoPlan) → is ≡ was → PlansSheet ws rows was r is
+  planned : (ds : List ℕ) → AllByRecursion Sound ws → AddsTo (length ws) rows (Ok tt) → length ws ≤ length was → Earliest ws rows ds → r ≡ Ok (length ws) → is ≡ ds ++ drop (length ws) was → PlansSheet ws rows was r is
+
+-- What planning a file gives: the first refusal of the file, or what planning its sheet gives.
 pub data PlansFile (file was : List ℕ) (r : Result ℕ FileFault) (is : List ℕ) : Type 0 where
   too_long : 1288 < length file → r ≡ Err TrailerDisagrees → is ≡ was → PlansFile file was r is
   no_sheet_file : length file ≤ 1288 → (Ends file → ⊥) → r ≡ Err NoSheetFile → is ≡ was → PlansFile file was r is
   trailer_disagrees : length file ≤ 1288 → Ends file → (Agrees file → ⊥) → r ≡ Err TrailerDisagrees → is ≡ was → PlansFile file was r is
-  faulty_window : (ws : List Window) (rows : List Row) (lot : ℕ) → length file ≤ 1288 → file ≡ file_of ws rows → FirstFaulty ws lot → r ≡ Err (Sheet (sheet.FaultyWindow lot)) → is ≡ was → PlansFile file was r is
-  rule_refused : (ws : List Window) (rows : List Row) (why : SheetFault) → length file ≤ 1288 → file ≡ file_of ws rows → AllByRecursion Sound ws → AddsTo (length ws) rows (Err why) → r ≡ Err (Sheet why) → is ≡ was → PlansFile file was r is
-  short_answer : (ws : List Window) (rows : List Row) → Accepted file ws rows → length was < length ws → r ≡ Err (Sheet sheet.ShortAnswer) → is ≡ was → PlansFile file was r is
-  no_plan : (ws : List Window) (rows : List Row) → Accepted file ws rows → length ws ≤ length was → NoPlan ws rows → r ≡ Err (Sheet sheet.NoPlan) → is ≡ was → PlansFile file was r is
-  planned : (ws : List Window) (rows : List Row) (ds : List ℕ) → Accepted file ws rows → length ws ≤ length was → Earliest ws rows ds → r ≡ Ok (length ws) → is ≡ ds ++ drop (length ws) was → PlansFile file was r is
+  sheet_planned : (ws : List Window) (rows : List Row) → length file ≤ 1288 → file ≡ file_of ws rows → length ws ≤ 256 → PlansSheet ws rows was r is → PlansFile file was r is

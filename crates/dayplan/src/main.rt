@@ -1,6 +1,8 @@
 // dayplan: a sheet file from standard input; its plan, or one refusal line, to standard output. After a refusal it ends with status 1.
 #![tactic(auto)]
 
+ghost use Rattle.std.specs.Prelude.{◌≤◌, length, IfOk};
+
 use reply::reply::reply;
 use std::io;
 use std::io::{Read, Write};
@@ -16,19 +18,21 @@ fn main(rt: HostRuntime) -> anyhow::Result<()> {
     let length = read_input(&rt, &mut input)?;
     let mut output = [0; OUTPUT];
     let Ok(replied) = reply(&input[0..length], &mut output) else {
-        return Err(anyhow::Error::new("the text does not fit"));
+        return Err(anyhow::Error::msg("the text does not fit"));
     };
     if let Some(text) = output.get(0..replied.bytes) {
         rt.stdout().write_all(text)?;
     }
     if replied.refused {
-        return Err(anyhow::Error::new("refused"));
+        return Err(anyhow::Error::msg("refused"));
     }
     Ok(())
 }
 
 // Reads until the input ends or the buffer is full.
-fn read_input(rt: &HostRuntime, buffer: &mut [u8]) -> io::Result<usize> {
+fn read_input(rt: &HostRuntime, buffer: &mut [u8]) -> io::Result<usize>
+    ensures { IfOk result (λ n. n ≤ length buffer.old) }
+{
     let mut stdin = rt.stdin();
     let mut length = 0;
     while length < buffer.len() {
