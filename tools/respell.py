@@ -2,7 +2,10 @@
 """Respells the repository's own definitions and lemmas as the library spells its names: run once, after the toolchain's own port script.
 
 Types and modules are in upper camel case, everything else in snake case. Functions of src/ keep their names, and so do the goals and steps that the
-toolchain names. Usage: respell.py [--dry] [ROOT]"""
+toolchain names. Usage: respell.py [--dry] [--force] [ROOT]
+
+It lists the new names that fall together with a word that is there already, and stops unless --force says that they were looked at: in this
+repository these were a test, a field and a clause's label, in modules that do not meet the names."""
 
 import pathlib
 import re
