@@ -3,7 +3,6 @@ use bottom::masks::MaskStore;
 use bottom::words::WordStore;
 use calendar::dispatch::Dispatch;
 use calendar::period::{Period, PeriodFault, PeriodLength};
-use std::process::Abort;
 use std::test::Fail;
 use store::fault::StoreFault;
 use store::store::{WindowStore, read_window};
@@ -81,16 +80,23 @@ fn weeks_before_dispatch_on_words(rt: HostRuntime) -> Result<(), Fail> {
 #[test]
 fn weeks_below_dispatch_on_masks(rt: HostRuntime) -> Result<(), Fail> {
     let mut masks = [1 << 20 | 1 << 50];
-    below_dispatch(&rt, MaskStore::new(&mut masks), PeriodLength::new(7)?);
+    let (shown, raised, weeks) = below_dispatch(MaskStore::new(&mut masks), PeriodLength::new(7)?);
+    assert_eq!(rt; shown, Some(Window { low: 2, high: 7 }));
+    assert_eq!(rt; raised, Ok(()));
+    assert_eq!(rt; weeks, Some(Window { low: 2, high: 3 }));
     assert_eq!(rt; masks, [(1 << 28) - (1 << 20)]);
     Ok(())
 }
 
-// Generic, since a pile of lent memory with periods inside is not covered yet where its whole type is written out.
-fn below_dispatch<S: WindowStore + Drop>(rt: &impl Abort, days: S, week: PeriodLength) {
+// What a pile over these days shows, what it answers when lot 0 is to rise to 6, and what its weeks show then. Generic, since a pile of lent memory with periods inside is not
+// covered yet where its whole type is written out.
+fn below_dispatch<S: WindowStore + Drop>(
+    days: S,
+    week: PeriodLength,
+) -> (Option<Window>, Result<(), StoreFault>, Option<Window>) {
     let mut house = Dispatch::new(Period::new(days, week), 9);
-    assert_eq!(rt; read_window(&house, 0), Some(Window { low: 2, high: 7 }));
-    assert_eq!(rt; house.raise(0, 6), Ok(()));
+    let shown = read_window(&house, 0);
+    let raised = house.raise(0, 6);
     let weeks = house.into_below();
-    assert_eq!(rt; read_window(&weeks, 0), Some(Window { low: 2, high: 3 }));
+    (shown, raised, read_window(&weeks, 0))
 }
