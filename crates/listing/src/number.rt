@@ -16,7 +16,7 @@ pub fn digits(n: usize) -> usize
 }
 
 // Writes the decimal form to the first bytes, and answers how many they are; the bytes past them stay.
-pub fn write_number(n: usize, out: &mut [u8]) -> usize
+pub(crate) fn write_number(n: usize, out: &mut [u8]) -> usize
     requires { length (decimal n) ≤ length out.old }
     ensures long { result ≡ length (decimal n) }
     ensures written { out.new ≡ decimal n ++ drop (length (decimal n)) out.old }
