@@ -1,5 +1,6 @@
 // Windows, rules, outcomes and refusals in plain words.
 use plan::calls::Outcome;
+use rules::row::Row;
 use sheet::book::Book;
 use sheet::fault::SheetFault;
 use std::io;
@@ -19,7 +20,7 @@ pub fn show_windows<S: WindowStore>(rt: &HostRuntime, house: &S) -> io::Result<(
 pub fn show_rules(rt: &HostRuntime, book: &Book) -> io::Result<()> {
     for number in 0..book.rules() {
         if let Some(rule) = book.rule(number) {
-            let row = rule.row();
+            let row = Row::from(rule);
             let first = row.first;
             let length = row.length;
             let floor = row.floor;

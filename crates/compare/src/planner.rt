@@ -80,7 +80,7 @@ fn read_back<S: WindowStore>(sheet: Small, house: &S, book: &Book) -> Small {
     }
     for number in 0..3 {
         if let Some(rule) = book.rule(number) {
-            left.rules[number] = rule.row();
+            left.rules[number] = Row::from(rule);
         }
     }
     left

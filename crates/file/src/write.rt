@@ -90,7 +90,7 @@ fn row_at(book: &Book, number: usize) -> Row
     let Some(rule) = book.rule(number) else {
         return NO_ROW;
     };
-    rule.row()
+    Row::from(rule)
 }
 
 fn write_rule(row: Row, start: usize, bytes: &mut [u8])

@@ -68,6 +68,6 @@ pub fn planned<S: WindowStore>(
 // The count window of a rule, absent where there is no such rule.
 pub fn counts(book: &Book, number: usize) -> Option<(u32, u32)> {
     let rule = book.rule(number)?;
-    let row = rule.row();
+    let row = Row::from(rule);
     Some((row.floor, row.ceiling))
 }

@@ -62,7 +62,7 @@ pub fn add_rule(
         return Err(SheetFault::BookFull);
     }
     let rule = Rule { stretch, count };
-    book.add(rule.row());
+    book.add(Row::from(rule));
     slip.rules = number + 1;
     Ok(number)
 }

@@ -21,7 +21,7 @@ fn closed(words: &mut [u32], book: &mut Book) -> Result<Closed, SheetFault> {
 
 fn row(book: &Book, number: usize) -> Option<Row> {
     let rule = book.rule(number)?;
-    Some(rule.row())
+    Some(Row::from(rule))
 }
 
 fn counts(floor: u32, ceiling: u32) -> Option<Row> {

@@ -15,7 +15,7 @@ fn lots(first: usize, length: usize) -> Stretch {
 
 fn row(book: &Book, number: usize) -> Option<Row> {
     let rule = book.rule(number)?;
-    Some(rule.row())
+    Some(Row::from(rule))
 }
 
 // What start refuses with, if it does.

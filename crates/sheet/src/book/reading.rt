@@ -5,15 +5,7 @@ ghost use Rattle.sheet.specs.Books.{rules_of, lots_of, rule_at, plain};
 use super::Book;
 use crate::rule::Rule;
 use nvalue::count_window::CountWindow;
-use nvalue::stretch::Stretch;
 use rules::row::Row;
-
-const NO_ROW: Row = Row {
-    first: 0,
-    length: 0,
-    floor: 0,
-    ceiling: 0,
-};
 
 impl Book {
     // A book for this many lots, with no rules.
@@ -24,7 +16,7 @@ impl Book {
         Book {
             lots,
             used: 0,
-            rows: [NO_ROW; 32],
+            rows: [Row::default(); 32],
         }
     }
 
@@ -42,6 +34,13 @@ impl Book {
         self.used
     }
 
+    // The rules as plain numbers, in order.
+    pub fn rows(&self) -> &[Row]
+        ensures { result.now ≡ rules_of self.now }
+    {
+        &self.rows[..self.used]
+    }
+
     // The rule with a number, from 0 on; absent where there is no such rule.
     pub fn rule(&self, number: usize) -> Option<Rule>
         ensures { MatchOption result (length (rules_of self.now) ≤ number) (λ u. (number < length (rules_of self.now)) × (plain u ≡ rule_at (rules_of self.now) number)) }
@@ -52,10 +51,7 @@ impl Book {
         let row = self.rows[number];
         let count = CountWindow::new(row.floor, row.ceiling)?;
         Some(Rule {
-            stretch: Stretch {
-                first: row.first,
-                length: row.length,
-            },
+            stretch: row.stretch(),
             count,
         })
     }
