@@ -42,19 +42,11 @@ impl WindowStore for MaskStore<'_> {
     }
 
     fn low(&self, place: usize) -> Option<u32> {
-        if place < self.masks.len() {
-            Some(mask_window(self.masks[place]).low)
-        } else {
-            None
-        }
+        self.masks.get(place).map(|mask| mask_window(*mask).low)
     }
 
     fn high(&self, place: usize) -> Option<u32> {
-        if place < self.masks.len() {
-            Some(mask_window(self.masks[place]).high)
-        } else {
-            None
-        }
+        self.masks.get(place).map(|mask| mask_window(*mask).high)
     }
 
     fn raise(&mut self, place: usize, day: u32) -> Result<(), StoreFault> {

@@ -2,6 +2,8 @@
 use Rattle.std.specs.Prelude.{ℕ}
 use Rattle.count.specs.declared.fault.CountFault.{CountFault}
 use Rattle.count.specs.declared.fault.CountFault.TheVariants.{ShortWork, TooManyLots, FaultyWindow, NoSuchStretch, ShortAnswer}
+use Rattle.store.specs.declared.season.SeasonFault.{SeasonFault}
+use Rattle.store.specs.declared.season.SeasonFault.TheVariants.{TooManyLots as TooMany, FaultyWindow as Faulty}
 
 abbrev pub number_of : CountFault → ℕ
 number_of ShortWork = 6
@@ -16,3 +18,8 @@ place_of TooManyLots = 0
 place_of (FaultyWindow place) = place
 place_of NoSuchStretch = 0
 place_of ShortAnswer = 0
+
+-- windows that make no season are refused for the same reason
+abbrev pub of_season : SeasonFault → CountFault
+of_season TooMany = TooManyLots
+of_season (Faulty place) = FaultyWindow place

@@ -1,6 +1,8 @@
 // Why a question for the fewest or the most days is refused. A refusal writes no answer word.
 ghost use Rattle.std.specs.Prelude.{◌≡◌};
-ghost use Rattle.count.specs.Faults.{number_of, place_of};
+ghost use Rattle.count.specs.Faults.{number_of, of_season, place_of};
+
+use store::season::SeasonFault;
 
 #[derive(Clone, Copy, PartialEq, Eq, Debug)]
 pub enum CountFault {
@@ -37,6 +39,17 @@ impl CountFault {
         match self {
             CountFault::FaultyWindow(place) => place,
             _ => 0,
+        }
+    }
+}
+
+impl From<SeasonFault> for CountFault {
+    ghost from_gives = { λ value r. r ≡ of_season value };
+
+    fn from(value: SeasonFault) -> CountFault {
+        match value {
+            SeasonFault::TooManyLots => CountFault::TooManyLots,
+            SeasonFault::FaultyWindow(lot) => CountFault::FaultyWindow(lot),
         }
     }
 }

@@ -4,7 +4,7 @@
 pub mod fault;
 pub mod fewest;
 pub mod most;
-mod survey;
+mod question;
 
 // Stretches stand in the crate of counting; callers of these functions find them here too.
 pub use nvalue::stretch;

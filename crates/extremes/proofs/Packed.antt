@@ -1,6 +1,7 @@
 -- Lots that take days one after the other: what ties the takers, the left-over windows, the runs and the chosen days, and how a turn keeps it.
 use Rattle.std.proofs.Common.{◌≡◌, ℕ, ◌+◌, ◌-◌, ◌<◌, ◌≤◌, Bool, true, false, cond, ◌&&◌, eqb, leb, List, [], ◌∷◌, length, get_or, set, sym, refl, ap, ◌∙◌, subst, inl, inr, arith, below_more}
 use Rattle.std.specs.List.{AllByRecursion}
+use Rattle.std.specs.List.Sorted.{IsPermutation}
 use Rattle.std.proofs.ByRecursion.{All-weaker}
 use Rattle.std.proofs.lemmas.List.{get_or-set_same, get_or-set_other}
 use Rattle.std.proofs.lemmas.Bool.{cases_eq, cases_lt}
@@ -10,7 +11,9 @@ use Rattle.store.specs.Windows.{window, window_at}
 use Rattle.nvalue.specs.Choices.{In, load}
 use Rattle.nvalue.specs.Nvalue.{has, nvalue}
 use Rattle.nvalue.proofs.Nvalue.{has_le_one}
+use Rattle.extremes.specs.Orders.{slots}
 use Rattle.extremes.specs.Turns.{Taken, Free}
+use Rattle.extremes.proofs.Orders.{length_order, slot_there}
 
 -- a lot that has taken a day: its window, and the day
 abbrev pub Taker : Type 0
@@ -175,6 +178,10 @@ module _ (taken : List Bool) (runs : List Window) (top : ℕ) (ts : List Taker) 
 -- the lot that a slot names
 abbrev pub lot_in_file : List (ℕ × ℕ) → ℕ → ℕ
 lot_in_file order k = (get_or order k (0, 0)).1
+
+-- each lot of the file is one of the windows'
+pub names_lot : (ws : List Window) (order : List (ℕ × ℕ)) → IsPermutation (slots 0 ws) order → (t : ℕ) → t < length order → lot_in_file order t < length ws
+names_lot ws order shuffled t l = slot_there ws order shuffled t (omega (arith, length_order ws order shuffled))
 
 -- the lots of the first slots have their days, each inside its window, and these are the days taken
 pub record Chosen (ws : List Window) (order : List (ℕ × ℕ)) (t : ℕ) (days taken_days : List ℕ) : Type 0 where

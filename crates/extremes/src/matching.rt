@@ -9,6 +9,8 @@ ghost use Rattle.store.specs.Sound.{Sound};
 ghost use Rattle.extremes.specs.Turns.{Taken, Free, Turn};
 
 use crate::order::{Slot, order_by_high};
+use store::limits::{DAYS, LOTS};
+use store::season::Season;
 use store::window::Window;
 
 // The greatest count, and how many runs show it.
@@ -19,45 +21,39 @@ pub struct Most {
 }
 
 // Writes a choice with the most different days, and the runs that show that no choice has more.
-pub fn most_of(windows: &[Window], days: &mut [u32], runs: &mut [Window]) -> Most
-    requires sound { AllByRecursion Sound windows.now }
-    requires few { length windows.now ≤ 256 }
-    requires day_each { length days.old ≡ length windows.now }
-    requires run_room { length windows.now ≤ length runs.old }
-    ensures shown { Greatest windows.now days.new (take result.runs runs.new) result.count }
+pub fn most_of(season: Season, days: &mut [u32], runs: &mut [Window]) -> Most
+    requires day_each { length days.old ≡ length season.windows.now }
+    requires run_room { length season.windows.now ≤ length runs.old }
+    ensures shown { Greatest season.entry.windows.now days.new (take result.runs runs.new) result.count }
     ensures room { result.runs ≤ length runs.new }
 {
-    let mut slots = [(0u32, 0usize); 256];
-    let order = &mut slots[0..windows.len()];
-    order_by_high(windows, order);
-    place_lots(windows, order, days, runs)
+    let mut slots = [(0, 0); LOTS];
+    let order = &mut slots[0..season.windows.len()];
+    order_by_high(season.windows, order);
+    place_lots(season, order, days, runs)
 }
 
 // Gives each lot its day, in the given order.
-fn place_lots(windows: &[Window], order: &[Slot], days: &mut [u32], runs: &mut [Window]) -> Most
-    requires sound { AllByRecursion Sound windows.now }
-    requires few { length windows.now ≤ 256 }
-    requires day_each { length days.old ≡ length windows.now }
-    requires run_room { length windows.now ≤ length runs.old }
-    requires shuffled { IsPermutation (slots 0 windows.now) order.now }
+fn place_lots(season: Season, order: &[Slot], days: &mut [u32], runs: &mut [Window]) -> Most
+    requires day_each { length days.old ≡ length season.windows.now }
+    requires run_room { length season.windows.now ≤ length runs.old }
+    requires shuffled { IsPermutation (slots 0 season.windows.now) order.now }
     requires rises { IsNonDecreasingBy (λ s. s.0) order.now }
-    ensures shown { Greatest windows.now days.new (take result.runs runs.new) result.count }
+    ensures shown { Greatest season.entry.windows.now days.new (take result.runs runs.new) result.count }
     ensures room { result.runs ≤ length runs.new }
 {
-    let mut taken = [false; 10_000];
+    let mut taken = [false; DAYS];
     let mut most = Most { count: 0, runs: 0 };
-    for slot in order {
-        let place = slot.1;
-        days[place] = place_lot(windows[place], &mut taken, runs, &mut most);
+    for (_, place) in order {
+        days[*place] = place_lot(season.windows[*place], &mut taken, runs, &mut most);
     }
     most
 }
 
 // One lot's turn, and the day that it gets: the first free one of its window, or where none is free the window's first.
 // Then the run of taken days that ends with the window shows that the lot is left over.
-fn place_lot(window: Window, taken: &mut [bool], runs: &mut [Window], most: &mut Most) -> u32
+fn place_lot(window: Window, taken: &mut [bool; DAYS], runs: &mut [Window], most: &mut Most) -> u32
     requires sound { Sound window }
-    requires all_days { length taken.old ≡ 10000 }
     requires room { most.old.runs < length runs.old }
     requires few { most.old.count ≤ 256 }
     ensures { Turn window result taken.old runs.old most.old taken.new runs.new most.new }
@@ -79,19 +75,17 @@ fn place_lot(window: Window, taken: &mut [bool], runs: &mut [Window], most: &mut
 }
 
 // The first free day of a window, or the day after its last.
-fn first_free(taken: &[bool], window: Window) -> u32
+fn first_free(taken: &[bool; DAYS], window: Window) -> u32
     requires sound { Sound window }
-    requires all_days { length taken.now ≡ 10000 }
     ensures from { window.low ≤ result }
     ensures before { (d : ℕ) → window.low ≤ d → d < result → Taken taken.now d }
     ensures free { result ≤ window.high → Free taken.now result }
 {
-    for day in window.low..=window.high {
-        if !taken[day as usize] {
-            return day;
-        }
+    let days = &taken[window.low as usize..=window.high as usize];
+    match days.iter().position(|is_taken| !*is_taken) {
+        Some(later) => window.low + later as u32,
+        None => window.high + 1,
     }
-    window.high + 1
 }
 
 // The first of the unbroken taken days before a day, or the day itself where the one before it is free.
@@ -101,11 +95,11 @@ fn block_start(taken: &[bool], day: u32) -> u32
     ensures full { (d : ℕ) → result ≤ d → d < day → Taken taken.now d }
     ensures edge { 0 < result → Free taken.now (result - 1) }
 {
-    let mut start = day;
-    while start > 0 && taken[start as usize - 1] {
-        start -= 1;
+    let before = &taken[..day as usize];
+    match before.iter().rposition(|is_taken| !*is_taken) {
+        Some(free) => free as u32 + 1,
+        None => 0,
     }
-    start
 }
 
 // How many of the first `top` runs are left where those at the end that begin at `start` or later are dropped.
@@ -115,9 +109,8 @@ fn runs_before(runs: &[Window], top: usize, start: u32) -> usize
     ensures gone { (k : ℕ) → result ≤ k → k < top → start ≤ (window_at runs.now k).low }
     ensures left { 0 < result → (window_at runs.now (result - 1)).low < start }
 {
-    let mut below = top;
-    while below > 0 && runs[below - 1].low >= start {
-        below -= 1;
+    match runs[..top].iter().rposition(|run| run.low < start) {
+        Some(last) => last + 1,
+        None => 0,
     }
-    below
 }

@@ -2,12 +2,11 @@
 ghost use Rattle.std.specs.Prelude.{◌≡◌, map, length};
 ghost use Rattle.extremes.specs.Mirror.{flip, mirrored};
 
+use store::limits::{LAST_DAY, LOTS};
+use store::season::Season;
 use store::window::Window;
 
-// The last day of all. Nothing lies past it, so no subtraction from it saturates.
-const LAST_DAY: u32 = 9999;
-
-// The mirror image of a day.
+// The mirror image of a day. No day lies past the last, so the subtraction never saturates.
 pub fn flip_day(day: u32) -> u32
     ensures { result ≡ flip day }
 {
@@ -15,23 +14,32 @@ pub fn flip_day(day: u32) -> u32
 }
 
 // Writes the mirror image of each window.
-pub fn mirror_windows(windows: &[Window], image: &mut [Window])
+fn mirror_windows(windows: &[Window], image: &mut [Window])
     requires { length image.old ≡ length windows.now }
     ensures { image.new ≡ map mirrored windows.now }
 {
-    for i in 0..windows.len() {
-        image[i] = Window {
-            low: flip_day(windows[i].high),
-            high: flip_day(windows[i].low),
+    for (place, window) in windows.iter().enumerate() {
+        image[place] = Window {
+            low: flip_day(window.high),
+            high: flip_day(window.low),
         };
     }
+}
+
+// The mirror image of a season, in the room that is lent for it.
+pub fn mirror_season<'a>(season: Season, room: &'a mut [Window; LOTS]) -> Season<'a>
+    ensures { result.windows.now ≡ map mirrored season.entry.windows.now }
+{
+    let image = &mut room[0..season.windows.len()];
+    mirror_windows(season.windows, image);
+    Season { windows: image }
 }
 
 // Turns each day into its mirror image.
 pub fn mirror_days(days: &mut [u32])
     ensures { days.new ≡ map flip days.old }
 {
-    for i in 0..days.len() {
-        days[i] = flip_day(days[i]);
+    for day in days {
+        *day = flip_day(*day);
     }
 }

@@ -1,5 +1,5 @@
 // Lots in the order of their last days.
-ghost use Rattle.std.specs.Prelude.{◌≡◌, ◌<◌, length, slice_index_or};
+ghost use Rattle.std.specs.Prelude.{◌≡◌, length};
 ghost use Rattle.std.specs.List.Sorted.{IsPermutation, IsNonDecreasingBy};
 ghost use Rattle.extremes.specs.Orders.{slots};
 
@@ -22,17 +22,7 @@ fn fill_slots(windows: &[Window], order: &mut [Slot])
     requires { length order.old ≡ length windows.now }
     ensures { order.new ≡ slots 0 windows.now }
 {
-    for i in 0..windows.len() {
-        order[i] = (windows[i].high, i);
+    for (place, window) in windows.iter().enumerate() {
+        order[place] = (window.high, place);
     }
-}
-
-// The slot at a place of the order; it names a lot of the stretch.
-pub fn slot_at(windows: &[Window], order: &[Slot], t: usize) -> Slot
-    requires shuffled { IsPermutation (slots 0 windows.now) order.now }
-    requires within { t < length windows.now }
-    ensures value { result ≡ slice_index_or order.now t (0, 0) }
-    ensures there { result.1 < length windows.now }
-{
-    order[t]
 }

@@ -13,9 +13,7 @@ impl Drop for Page<'_> {
     fn drop(self)
         ensures { (k : ℕ) → k < length self.exit.0.now → slice_index self.exit.0.now k ≡ 0 }
     {
-        for word in self.words.iter_mut() {
-            *word = 0;
-        }
-        let Page { words: _ } = self;
+        let Page { words } = self;
+        words.fill(0);
     }
 }

@@ -1,4 +1,4 @@
-// Windows on a page of words, where low and high of each lot stand in turn: copied from a store, and looked through for a faulty one.
+// Windows on a page of words, where low and high of each lot stand in turn: copied from a store, and read back as windows.
 ghost use Rattle.std.specs.Prelude.{◌≡◌, ◌+◌, ◌*◌, ◌<◌, ◌≤◌, length, take, MatchOption, slice_set};
 ghost use Rattle.std.specs.List.{AllByRecursion};
 ghost use Rattle.store.specs.Pairs.{paired};
@@ -7,8 +7,6 @@ ghost use Rattle.store.specs.Windows.{window_at};
 
 use store::store::{WindowStore, read_window};
 use store::window::Window;
-
-const LAST_DAY: u32 = 9999;
 
 // The window of a lot on a page.
 pub fn window_in(words: &[u32], lot: usize) -> Window
@@ -30,7 +28,7 @@ pub fn put_window(words: &mut [u32], lot: usize, w: Window)
 }
 
 // Copies the windows of a store onto a page.
-pub fn copy_windows<S: WindowStore>(store: &S, page: &mut [u32])
+fn copy_windows<S: WindowStore>(store: &S, page: &mut [u32])
     requires { 2 * length (S.WindowStore.windows store.now) ≤ length page.old }
     ensures { take (length (S.WindowStore.windows store.now)) (paired page.new) ≡ S.WindowStore.windows store.now }
 {
@@ -49,16 +47,22 @@ fn copy_window<S: WindowStore>(store: &S, lot: usize, page: &mut [u32])
     }
 }
 
-// The first lot on the page whose window is empty or has a day above 9,999.
-pub fn first_faulty(page: &[u32], lots: usize) -> Option<usize>
-    requires { 2 * lots ≤ length page.now }
-    ensures { MatchOption result (AllByRecursion Sound (take lots (paired page.now))) (FirstFaulty (take lots (paired page.now))) }
+// The windows on a page, as windows: as many as are asked for.
+fn read_windows(page: &[u32], windows: &mut [Window])
+    requires { 2 * length windows.old ≤ length page.now }
+    ensures { windows.new ≡ take (length windows.old) (paired page.now) }
 {
-    for lot in 0..lots {
-        let w = window_in(page, lot);
-        if w.low > w.high || w.high > LAST_DAY {
-            return Some(lot);
-        }
+    for (lot, window) in windows.iter_mut().enumerate() {
+        *window = window_in(page, lot);
     }
-    None
+}
+
+// Takes the windows of a store over a page of working words.
+pub fn take_windows<S: WindowStore>(store: &S, page: &mut [u32], windows: &mut [Window])
+    requires each { length windows.old ≡ length (S.WindowStore.windows store.now) }
+    requires room { 2 * length windows.old ≤ length page.old }
+    ensures { windows.new ≡ S.WindowStore.windows store.now }
+{
+    copy_windows(store, page);
+    read_windows(page, windows);
 }

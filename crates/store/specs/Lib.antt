@@ -1,4 +1,5 @@
 pub mod Pairs
+pub mod Seasons
 pub mod Sound
 pub mod Verdicts
 pub mod Windows

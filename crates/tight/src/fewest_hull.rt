@@ -8,26 +8,25 @@ ghost use Rattle.extremes.specs.Shown.{HasFewest};
 ghost use Rattle.store.specs.Sound.{Sound};
 ghost use Rattle.tight.specs.Tight.{Hull};
 
-use extremes::mirror::{flip_day, mirror_windows};
+use extremes::mirror::{flip_day, mirror_season};
 use extremes::points::fewest_of;
+use store::limits::LOTS;
+use store::season::Season;
 use store::window::Window;
 
 // Finds the points from the left and, by the mirror image, from the right. Each pair of them bounds the days that can stand for one of the fewest.
-pub fn fewest_hull(windows: &[Window], hull: &mut [Window])
-    requires sound { AllByRecursion Sound windows.now }
-    requires few { length windows.now ≤ 256 }
-    requires each { length hull.old ≡ length windows.now }
-    ensures { Hull windows.now (HasFewest windows.now) hull.new }
+pub fn fewest_hull(season: Season, hull: &mut [Window])
+    requires each { length hull.old ≡ length season.windows.now }
+    ensures { Hull season.entry.windows.now (HasFewest season.entry.windows.now) hull.new }
 {
-    let mut room = [Window { low: 0, high: 0 }; 256];
-    let image = &mut room[0..windows.len()];
-    mirror_windows(windows, image);
-    let mut points = [0; 256];
-    let mut image_points = [0; 256];
-    let count = points_of(windows, &mut points);
+    let mut room = [Window::default(); LOTS];
+    let image = mirror_season(season, &mut room);
+    let mut points = [0; LOTS];
+    let mut image_points = [0; LOTS];
+    let count = points_of(season, &mut points);
     let image_count = points_of(image, &mut image_points);
     narrow(
-        windows,
+        season,
         &points[0..count],
         &image_points[0..image_count],
         hull,
@@ -35,17 +34,15 @@ pub fn fewest_hull(windows: &[Window], hull: &mut [Window])
 }
 
 // Writes the points of a choice with the fewest different days, in ascending order.
-fn points_of(windows: &[Window], points: &mut [u32]) -> usize
-    requires sound { AllByRecursion Sound windows.now }
-    requires few { length windows.now ≤ 256 }
-    requires room { length windows.now ≤ length points.old }
-    ensures points { Points windows.now (take result points.new) }
+fn points_of(season: Season, points: &mut [u32]) -> usize
+    requires room { length season.windows.now ≤ length points.old }
+    ensures points { Points season.entry.windows.now (take result points.new) }
     ensures few { result ≤ length points.new }
 {
-    let mut days = [0; 256];
-    let mut lots = [0; 256];
-    let count = fewest_of(windows, &mut days[0..windows.len()], &mut lots);
-    last_days(windows, &lots[0..count], &mut points[0..count]);
+    let mut days = [0; LOTS];
+    let mut lots = [0; LOTS];
+    let count = fewest_of(season, &mut days[0..season.windows.len()], &mut lots);
+    last_days(season.windows, &lots[0..count], &mut points[0..count]);
     count
 }
 
@@ -55,23 +52,22 @@ fn last_days(windows: &[Window], lots: &[u32], days: &mut [u32])
     requires each { length days.old ≡ length lots.now }
     ensures { days.new ≡ lasts windows.now lots.now }
 {
-    for i in 0..lots.len() {
-        days[i] = windows[lots[i] as usize].high;
+    for (i, lot) in lots.iter().enumerate() {
+        days[i] = windows[*lot as usize].high;
     }
 }
 
 // Cuts each window to its first and its last used day; the last one is the first one of the mirror image.
-fn narrow(windows: &[Window], points: &[u32], image_points: &[u32], hull: &mut [Window])
-    requires sound { AllByRecursion Sound windows.now }
-    requires each { length hull.old ≡ length windows.now }
-    requires points { Points windows.now points.now }
-    requires image { Points (map mirrored windows.now) image_points.now }
-    ensures { Hull windows.now (HasFewest windows.now) hull.new }
+fn narrow(season: Season, points: &[u32], image_points: &[u32], hull: &mut [Window])
+    requires each { length hull.old ≡ length season.windows.now }
+    requires points { Points season.windows.now points.now }
+    requires image { Points (map mirrored season.windows.now) image_points.now }
+    ensures { Hull season.entry.windows.now (HasFewest season.entry.windows.now) hull.new }
 {
-    for i in 0..windows.len() {
-        let last = first_used(flip_day(windows[i].high), image_points, points);
+    for (i, window) in season.windows.iter().enumerate() {
+        let last = first_used(flip_day(window.high), image_points, points);
         hull[i] = Window {
-            low: first_used(windows[i].low, points, image_points),
+            low: first_used(window.low, points, image_points),
             high: flip_day(last),
         };
     }
@@ -96,8 +92,5 @@ fn first_from(low: u32, points: &[u32]) -> usize
     ensures before { (j : ℕ) → j < result → slice_index points.now j < low }
     ensures reached { low ≤ slice_index points.now result }
 {
-    match points.binary_search(&low) {
-        Ok(k) => k,
-        Err(k) => k,
-    }
+    points.partition_point(|point| *point < low)
 }

@@ -6,50 +6,45 @@ ghost use Rattle.store.specs.Sound.{Sound};
 
 use crate::trial::{best_before, can_move};
 use extremes::matching::most_of;
-use extremes::mirror::{mirror_days, mirror_windows};
+use extremes::mirror::{mirror_days, mirror_season};
+use store::limits::LOTS;
+use store::season::Season;
 use store::window::Window;
 
 // Writes for each lot the first day that a choice with the most different days gives to it.
-pub fn first_days(windows: &[Window], firsts: &mut [u32])
-    requires sound { AllByRecursion Sound windows.now }
-    requires few { length windows.now ≤ 256 }
-    requires each { length firsts.old ≡ length windows.now }
-    ensures { FirstDays windows.now firsts.new }
+pub fn first_days(season: Season, firsts: &mut [u32])
+    requires each { length firsts.old ≡ length season.windows.now }
+    ensures { FirstDays season.entry.windows.now firsts.new }
 {
-    let lots = windows.len();
-    let mut early = [0; 256];
+    let lots = season.windows.len();
+    let mut early = [0; LOTS];
     let left = &mut early[0..lots];
-    let most = best_from_left(windows, left);
-    let mut late = [0; 256];
+    let most = best_from_left(season, left);
+    let mut late = [0; LOTS];
     let right = &mut late[0..lots];
-    best_from_right(windows, right);
-    for lot in 0..lots {
-        firsts[lot] = first_day(windows, lot, most, left, right);
+    best_from_right(season, right);
+    for (lot, first) in firsts.iter_mut().enumerate() {
+        *first = first_day(season, lot, most, left, right);
     }
 }
 
 // A choice with the most different days that prefers early days, and its count.
-fn best_from_left(windows: &[Window], days: &mut [u32]) -> usize
-    requires sound { AllByRecursion Sound windows.now }
-    requires few { length windows.now ≤ 256 }
-    requires each { length days.old ≡ length windows.now }
-    ensures best { Best windows.now days.new }
-    ensures count { MostIs windows.now result }
+fn best_from_left(season: Season, days: &mut [u32]) -> usize
+    requires each { length days.old ≡ length season.windows.now }
+    ensures best { Best season.entry.windows.now days.new }
+    ensures count { MostIs season.entry.windows.now result }
 {
-    let mut runs = [Window { low: 0, high: 0 }; 256];
-    most_of(windows, days, &mut runs).count
+    let mut runs = [Window::default(); LOTS];
+    most_of(season, days, &mut runs).count
 }
 
 // The same that prefers late days.
-fn best_from_right(windows: &[Window], days: &mut [u32])
-    requires sound { AllByRecursion Sound windows.now }
-    requires few { length windows.now ≤ 256 }
-    requires each { length days.old ≡ length windows.now }
-    ensures { Best windows.now days.new }
+fn best_from_right(season: Season, days: &mut [u32])
+    requires each { length days.old ≡ length season.windows.now }
+    ensures { Best season.entry.windows.now days.new }
 {
-    let mut space = [Window { low: 0, high: 0 }; 256];
-    let image = &mut space[0..windows.len()];
-    mirror_windows(windows, image);
+    let mut room = [Window::default(); LOTS];
+    let image = mirror_season(season, &mut room);
     best_from_left(image, days);
     mirror_days(days);
 }
@@ -57,21 +52,19 @@ fn best_from_right(windows: &[Window], days: &mut [u32])
 // The first day that a choice with the most different days, `most`, gives to a lot: no such choice gives it one before `first`, and one gives it `last`.
 // Each turn tries `width` days: at first all those before the day in `left`, which often is the one sought, then half of what is left. `left` takes early days, fewer than 256 past the window's first, so nine trials do.
 // Where the lot can move to `first` in `left` or `right` none is needed.
-fn first_day(windows: &[Window], lot: usize, most: usize, left: &[u32], right: &[u32]) -> u32
-    requires sound { AllByRecursion Sound windows.now }
-    requires few { length windows.now ≤ 256 }
-    requires there { lot < length windows.now }
-    requires count { MostIs windows.now most }
-    requires left { Best windows.now left.now }
-    requires right { Best windows.now right.now }
-    ensures { FirstDay windows.now lot result }
+fn first_day(season: Season, lot: usize, most: usize, left: &[u32], right: &[u32]) -> u32
+    requires there { lot < length season.windows.now }
+    requires count { MostIs season.windows.now most }
+    requires left { Best season.windows.now left.now }
+    requires right { Best season.windows.now right.now }
+    ensures { FirstDay season.entry.windows.now lot result }
 {
-    let mut first = windows[lot].low;
+    let mut first = season.windows[lot].low;
     let mut last = left[lot];
     let mut width = last - first;
     while first < last && !can_move(left, lot, first) && !can_move(right, lot, first) {
         let end = first + width;
-        match best_before(windows, lot, first, end, most) {
+        match best_before(season, lot, first, end, most) {
             Some(day) => last = day,
             None => first = end,
         }

@@ -7,25 +7,25 @@ ghost use Rattle.store.specs.Sound.{Sound};
 ghost use Rattle.tight.specs.Tight.{Hull};
 
 use crate::first_days::first_days;
-use extremes::mirror::{mirror_days, mirror_windows};
+use extremes::mirror::{mirror_days, mirror_season};
+use store::limits::LOTS;
+use store::season::Season;
 use store::window::Window;
 
 // Writes for each lot the first and the last day that a choice with the most different days gives to it.
-pub fn most_hull(windows: &[Window], hull: &mut [Window])
-    requires sound { AllByRecursion Sound windows.now }
-    requires few { length windows.now ≤ 256 }
-    requires each { length hull.old ≡ length windows.now }
-    ensures { Hull windows.now (HasMost windows.now) hull.new }
+pub fn most_hull(season: Season, hull: &mut [Window])
+    requires each { length hull.old ≡ length season.windows.now }
+    ensures { Hull season.entry.windows.now (HasMost season.entry.windows.now) hull.new }
 {
-    let lots = windows.len();
-    let mut firsts = [0; 256];
+    let lots = season.windows.len();
+    let mut firsts = [0; LOTS];
     let lows = &mut firsts[0..lots];
-    first_days(windows, lows);
-    let mut lasts = [0; 256];
+    first_days(season, lows);
+    let mut lasts = [0; LOTS];
     let highs = &mut lasts[0..lots];
-    last_days(windows, highs);
-    for i in 0..lots {
-        hull[i] = Window {
+    last_days(season, highs);
+    for (i, window) in hull.iter_mut().enumerate() {
+        *window = Window {
             low: lows[i],
             high: highs[i],
         };
@@ -33,15 +33,12 @@ pub fn most_hull(windows: &[Window], hull: &mut [Window])
 }
 
 // Writes for each lot the last day that a choice with the most different days gives to it: the first one of the mirror image.
-fn last_days(windows: &[Window], lasts: &mut [u32])
-    requires sound { AllByRecursion Sound windows.now }
-    requires few { length windows.now ≤ 256 }
-    requires each { length lasts.old ≡ length windows.now }
-    ensures { LastDays windows.now lasts.new }
+fn last_days(season: Season, lasts: &mut [u32])
+    requires each { length lasts.old ≡ length season.windows.now }
+    ensures { LastDays season.entry.windows.now lasts.new }
 {
-    let mut space = [Window { low: 0, high: 0 }; 256];
-    let image = &mut space[0..windows.len()];
-    mirror_windows(windows, image);
+    let mut room = [Window::default(); LOTS];
+    let image = mirror_season(season, &mut room);
     first_days(image, lasts);
     mirror_days(lasts);
 }

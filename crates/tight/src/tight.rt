@@ -14,6 +14,8 @@ use count::fault::CountFault;
 use extremes::matching::most_of;
 use extremes::points::fewest_of;
 use nvalue::count_window::CountWindow;
+use store::limits::LOTS;
+use store::season::Season;
 use store::window::Window;
 
 // Narrows the windows of a stretch to the smallest that hold every choice with a count in the count window, and answers the smallest count window of those
@@ -24,108 +26,68 @@ pub fn tighten(
 ) -> Result<Option<CountWindow>, CountFault>
     ensures { MatchResult result (λ o. (length windows.old ≤ 256) × AllByRecursion Sound windows.old × MatchOption o (((ds : List ℕ) → Choice windows.old ds → Counts count.floor count.ceiling ds → ⊥) × (windows.new ≡ windows.old)) (λ tight. Tightest windows.old count.floor count.ceiling windows.new tight.floor tight.ceiling)) (λ e. Unfit windows.old e × (windows.new ≡ windows.old)) }
 {
-    if windows.len() > 256 {
-        return Err(CountFault::TooManyLots);
+    let mut room = [Window::default(); LOTS];
+    let season = Season::new(windows)?;
+    let hull = &mut room[0..season.windows.len()];
+    let tight = tighten_season(season, count, hull);
+    if tight.is_some() {
+        windows.copy_from_slice(hull);
     }
-    if let Some(lot) = first_unsound(windows) {
-        return Err(CountFault::FaultyWindow(lot));
-    }
-    Ok(tighten_sound(windows, count))
+    Ok(tight)
 }
 
-// The first window that is empty or has a day above 9,999.
-fn first_unsound(windows: &[Window]) -> Option<usize>
-    ensures { MatchOption result (AllByRecursion Sound windows.now) (FirstFaulty windows.now) }
+// Writes the tightest windows, and answers the tightest count window; none where there is no such choice.
+fn tighten_season(season: Season, count: CountWindow, hull: &mut [Window]) -> Option<CountWindow>
+    requires each { length hull.old ≡ length season.windows.now }
+    ensures { MatchOption result ((ds : List ℕ) → Choice season.entry.windows.now ds → Counts count.floor count.ceiling ds → ⊥) (λ tight. Tightest season.entry.windows.now count.floor count.ceiling hull.new tight.floor tight.ceiling) }
 {
-    for i in 0..windows.len() {
-        if windows[i].low > windows[i].high || windows[i].high > 9999 {
-            return Some(i);
-        }
-    }
-    None
-}
-
-fn tighten_sound(windows: &mut [Window], count: CountWindow) -> Option<CountWindow>
-    requires sound { AllByRecursion Sound windows.old }
-    requires few { length windows.old ≤ 256 }
-    ensures { MatchOption result (((ds : List ℕ) → Choice windows.old ds → Counts count.floor count.ceiling ds → ⊥) × (windows.new ≡ windows.old)) (λ tight. Tightest windows.old count.floor count.ceiling windows.new tight.floor tight.ceiling) }
-{
-    let least = least_count(windows);
-    let most = greatest_count(windows);
+    let least = least_count(season);
+    let most = greatest_count(season);
     let floor = count.floor();
     let ceiling = count.ceiling();
     if ceiling < least || most < floor {
         return None;
     }
-    narrow(windows, least, most, floor, ceiling);
+    write_hull(season, least, most, count, hull);
     CountWindow::new(floor.max(least), ceiling.min(most))
 }
 
-// A day is lost only where the ceiling is the least count or the floor the greatest, and not every choice has that count.
-fn narrow(windows: &mut [Window], least: u32, most: u32, floor: u32, ceiling: u32)
-    requires sound { AllByRecursion Sound windows.old }
-    requires few { length windows.old ≤ 256 }
-    requires least { IsLeast windows.old least }
-    requires most { IsGreatest windows.old most }
-    requires ordered { floor ≤ ceiling }
-    requires reached { least ≤ ceiling }
-    requires within { floor ≤ most }
-    ensures { Hull windows.old (Counts floor ceiling) windows.new }
+// Writes the tightest windows. A day is lost only where the ceiling is the least count or the floor the greatest, and not every choice has that count.
+fn write_hull(season: Season, least: u32, most: u32, count: CountWindow, hull: &mut [Window])
+    requires each { length hull.old ≡ length season.windows.now }
+    requires least { IsLeast season.windows.now least }
+    requires most { IsGreatest season.windows.now most }
+    requires reached { least ≤ count.ceiling }
+    requires within { count.floor ≤ most }
+    ensures { Hull season.entry.windows.now (Counts count.floor count.ceiling) hull.new }
 {
     if least == most {
-        return;
-    }
-    if ceiling == least {
-        narrow_to_fewest(windows);
-    } else if floor == most {
-        narrow_to_most(windows);
+        hull.copy_from_slice(season.windows);
+    } else if count.ceiling() == least {
+        fewest_hull(season, hull);
+    } else if count.floor() == most {
+        most_hull(season, hull);
+    } else {
+        hull.copy_from_slice(season.windows);
     }
 }
 
 // The least count of any choice.
-fn least_count(windows: &[Window]) -> u32
-    requires sound { AllByRecursion Sound windows.now }
-    requires few { length windows.now ≤ 256 }
-    ensures { IsLeast windows.now result }
+fn least_count(season: Season) -> u32
+    ensures { IsLeast season.entry.windows.now result }
 {
-    let mut days = [0; 256];
-    let mut lots = [0; 256];
-    let n = windows.len();
-    fewest_of(windows, &mut days[0..n], &mut lots) as u32
+    let mut days = [0; LOTS];
+    let mut lots = [0; LOTS];
+    let n = season.windows.len();
+    fewest_of(season, &mut days[0..n], &mut lots) as u32
 }
 
 // The greatest count of any choice.
-fn greatest_count(windows: &[Window]) -> u32
-    requires sound { AllByRecursion Sound windows.now }
-    requires few { length windows.now ≤ 256 }
-    ensures { IsGreatest windows.now result }
+fn greatest_count(season: Season) -> u32
+    ensures { IsGreatest season.entry.windows.now result }
 {
-    let mut days = [0; 256];
-    let mut runs = [Window { low: 0, high: 0 }; 256];
-    let n = windows.len();
-    most_of(windows, &mut days[0..n], &mut runs).count as u32
-}
-
-// Narrows to the choices with the fewest different days.
-fn narrow_to_fewest(windows: &mut [Window])
-    requires sound { AllByRecursion Sound windows.old }
-    requires few { length windows.old ≤ 256 }
-    ensures { Hull windows.old (HasFewest windows.old) windows.new }
-{
-    let mut room = [Window { low: 0, high: 0 }; 256];
-    let hull = &mut room[0..windows.len()];
-    fewest_hull(windows, hull);
-    windows.copy_from_slice(hull);
-}
-
-// Narrows to the choices with the most different days.
-fn narrow_to_most(windows: &mut [Window])
-    requires sound { AllByRecursion Sound windows.old }
-    requires few { length windows.old ≤ 256 }
-    ensures { Hull windows.old (HasMost windows.old) windows.new }
-{
-    let mut room = [Window { low: 0, high: 0 }; 256];
-    let hull = &mut room[0..windows.len()];
-    most_hull(windows, hull);
-    windows.copy_from_slice(hull);
+    let mut days = [0; LOTS];
+    let mut runs = [Window::default(); LOTS];
+    let n = season.windows.len();
+    most_of(season, &mut days[0..n], &mut runs).count as u32
 }

@@ -1,5 +1,5 @@
 // Trying days for a lot: whether a choice with the most different days gives it one of them.
-ghost use Rattle.std.specs.Prelude.{◌≡◌, ◌<◌, ◌≤◌, true, length, MatchOption, slice_set};
+ghost use Rattle.std.specs.Prelude.{◌≡◌, ℕ, ◌<◌, ◌≤◌, true, length, MatchOption, ◌≢◌, slice_index, slice_set};
 ghost use Rattle.std.specs.List.{AllByRecursion};
 ghost use Rattle.store.specs.Windows.{window_at};
 ghost use Rattle.nvalue.specs.Nvalue.{nvalue};
@@ -7,49 +7,48 @@ ghost use Rattle.tight.specs.FirstDays.{MostIs, ReachedBefore, Refused};
 ghost use Rattle.store.specs.Sound.{Sound};
 
 use extremes::matching::most_of;
+use store::limits::LOTS;
+use store::season::Season;
 use store::window::Window;
 
-// True where a lot moves to a day and no different day is lost: its own day is another lot's too, no lot has the new one, or it has it already.
+// True where a lot moves to a day and no different day is lost: its own day is another lot's too, it has the new one already, or no lot has that.
 pub fn can_move(days: &[u32], lot: usize, day: u32) -> bool
     requires { lot < length days.now }
     ensures { result ≡ true → nvalue days.now ≤ nvalue (slice_set days.now lot day) }
 {
-    let own = days[lot];
-    let mut free = true;
-    for i in 0..days.len() {
-        if days[i] == own && i != lot {
-            return true;
-        }
-        if days[i] == day {
-            free = false;
-        }
-    }
-    free || own == day
+    has_company(days, lot) || days[lot] == day || !days.contains(&day)
+}
+
+// Does another lot have the lot's day?
+fn has_company(days: &[u32], lot: usize) -> bool
+    requires { lot < length days.now }
+    ensures { result ≡ true → (other : ℕ) × (other < length days.now) × (other ≢ lot) × (slice_index days.now other ≡ slice_index days.now lot) }
+{
+    let day = days[lot];
+    days[..lot].contains(&day) || days[lot + 1..].contains(&day)
 }
 
 // A day from `from` on and before `end` that a choice with the most different days, `most`, gives to a lot, or none where no such choice does.
-pub fn best_before(windows: &[Window], lot: usize, from: u32, end: u32, most: usize) -> Option<u32>
-    requires sound { AllByRecursion Sound windows.now }
-    requires few { length windows.now ≤ 256 }
-    requires there { lot < length windows.now }
+pub fn best_before(season: Season, lot: usize, from: u32, end: u32, most: usize) -> Option<u32>
+    requires there { lot < length season.windows.now }
     requires some { from < end }
-    requires low { (window_at windows.now lot).low ≤ from }
-    requires high { end ≤ (window_at windows.now lot).high }
-    requires count { MostIs windows.now most }
-    ensures { MatchOption result (Refused windows.now lot from end) (λ day. ReachedBefore windows.now lot end day) }
+    requires low { (window_at season.windows.now lot).low ≤ from }
+    requires high { end ≤ (window_at season.windows.now lot).high }
+    requires count { MostIs season.windows.now most }
+    ensures { MatchOption result (Refused season.entry.windows.now lot from end) (λ day. ReachedBefore season.entry.windows.now lot end day) }
 {
-    let lots = windows.len();
-    let mut copy = [Window { low: 0, high: 0 }; 256];
+    let lots = season.windows.len();
+    let mut copy = [Window::default(); LOTS];
     let narrowed = &mut copy[0..lots];
     let range = Window {
         low: from,
         high: end - 1,
     };
-    narrow_lot(windows, lot, range, narrowed);
-    let mut space = [0; 256];
+    narrow_lot(season.windows, lot, range, narrowed);
+    let mut space = [0; LOTS];
     let days = &mut space[0..lots];
-    let mut runs = [Window { low: 0, high: 0 }; 256];
-    let found = most_of(narrowed, days, &mut runs);
+    let mut runs = [Window::default(); LOTS];
+    let found = most_of(Season { windows: narrowed }, days, &mut runs);
     if found.count < most {
         return None;
     }

@@ -2,5 +2,5 @@
 use Rattle.extremes.proofs.Packing.{Packing}
 use Rattle.extremes.proofs.matching.place_lots.Given as goal
 
-abbrev pub invariant-loop-slot : goal.invariant-loop-slot
-invariant-loop-slot l = Packing l.windows l.order l.slot-index l.taken l.days l.runs l.most
+abbrev pub invariant-loop-place : goal.invariant-loop-place
+invariant-loop-place l = Packing l.season.windows.now l.order l.place-index l.taken l.days l.runs l.most

@@ -4,19 +4,19 @@ use Rattle.std.proofs.lemmas.List.{append-nil, drop_all, get_or_default, take_al
 use Rattle.extremes.specs.Mirror.{flip}
 use Rattle.extremes.proofs.mirror.mirror_days.Goals as goal
 
-pub loop-i-preserved : goal.loop-i-preserved
-loop-i-preserved c =
-    let i = c.loop-i.i in
+pub loop-day-preserved : goal.loop-day-preserved
+loop-day-preserved c =
+    let i = c.loop-day.day-index in
     let was = c.args.days.now in
-    let b : i < length c.loop-i.days = omega arith in
-    ap (set c.loop-i.days i) c.flip_day.ensures
-    ∙ map_over_more flip was c.loop-i.days i (get_or c.loop-i.days i 0) (omega arith) c.loop-i.invariant
-    (get_or_default c.loop-i.days i 0 (get_or c.loop-i.days i 0) b)
+    let b : i < length c.loop-day.day-items = omega arith in
+    ap (set c.loop-day.day-items i) c.flip_day.ensures
+    ∙ map_over_more flip was c.loop-day.day-items i (get_or c.loop-day.day-items i 0) (omega arith) c.loop-day.invariant
+    (get_or_default c.loop-day.day-items i 0 (get_or c.loop-day.day-items i 0) b)
 
 pub returns : goal.returns
 returns c =
-    let i = c.loop-i.i in
+    let i = c.loop-day.day-index in
     let was = c.args.days.now in
-    c.loop-i.invariant
+    c.loop-day.invariant
     ∙ ap₂ (λ xs ys. map flip xs ++ ys) (take_all i was (omega arith)) (drop_all i was (omega arith))
     ∙ append-nil (map flip was)

@@ -2,5 +2,5 @@ use Rattle.std.proofs.Common.{◌≡◌, map, take}
 use Rattle.extremes.specs.Mirror.{mirrored}
 use Rattle.extremes.proofs.mirror.mirror_windows.Given as goal
 
-abbrev pub invariant-loop-i : goal.invariant-loop-i
-invariant-loop-i l = take l.i l.image ≡ map mirrored (take l.i l.windows)
+abbrev pub invariant-loop-place : goal.invariant-loop-place
+invariant-loop-place l = take l.place l.image ≡ map mirrored (take l.place l.windows)

@@ -6,17 +6,17 @@ use Rattle.extremes.specs.Orders.{slots}
 use Rattle.extremes.proofs.Orders.{get_or_slots, length_slots}
 use Rattle.extremes.proofs.order.fill_slots.Goals as goal
 
-pub loop-i-preserved : goal.loop-i-preserved
-loop-i-preserved c =
+pub loop-place-preserved : goal.loop-place-preserved
+loop-place-preserved c =
     let ws = c.args.windows.now in
-    let i = c.loop-i.i in
+    let i = c.loop-place.place in
     let z : 0 + i ≡ i = omega arith in
     let value = get_or_slots 0 ws i (omega arith) ∙ ap (λ n. ((window_at ws i).high, n)) z in
     subst
-    (λ v. (k : ℕ) → k < i + 1 → get_or (set c.loop-i.order i v) k (0, 0) ≡ get_or (slots 0 ws) k (0, 0))
+    (λ v. (k : ℕ) → k < i + 1 → get_or (set c.loop-place.order i v) k (0, 0) ≡ get_or (slots 0 ws) k (0, 0))
     value
-    (fill_by_more (λ k. get_or (slots 0 ws) k (0, 0)) c.loop-i.order i (0, 0) (omega arith) c.loop-i.invariant)
+    (fill_by_more (λ k. get_or (slots 0 ws) k (0, 0)) c.loop-place.order i (0, 0) (omega arith) c.loop-place.invariant)
 
 pub returns : goal.returns
 returns c =
-    ext_get_or (0, 0) _ _ (omega (arith, length_slots 0 c.args.windows.now)) (λ k h. c.loop-i.invariant k (omega (arith, length_slots 0 c.args.windows.now)))
+    ext_get_or (0, 0) _ _ (omega (arith, length_slots 0 c.args.windows.now)) (λ k h. c.loop-place.invariant k (omega (arith, length_slots 0 c.args.windows.now)))

@@ -1,39 +1,59 @@
-use Rattle.std.proofs.Common.{◌≡◌, ◌<◌, ◌≤◌, length, subst, inl, inr, arith}
-use Rattle.store.specs.Windows.{window_at}
+use Rattle.std.proofs.Common.{◌≡◌, ◌<◌, ◌≤◌, length, subst, inl, inr, arith, rules}
+use Rattle.extremes.proofs.Orders.{length_order}
+use Rattle.extremes.proofs.Packed.{names_lot}
 use Rattle.extremes.proofs.Pointed.{Pointed, opens, joins, pointed_least, pointed_points}
 use Rattle.extremes.proofs.points.serve.Goals as goal
-use Rattle.extremes.proofs.points.serve.Goals.{then-count-eq0, then-count-eq0-via-then-count-eq0, then-count-eq0-via-else-count-eq0+then-windows-place, else-count-eq0+else-windows-place}
+use Rattle.extremes.proofs.points.serve.Goals.{then-count-eq0, then-count-eq0-via-then-count-eq0, then-count-eq0-via-else-count-eq0+then-season-place, else-count-eq0+else-season-place}
 
-pub loop-t-preserved : goal.loop-t-preserved
-loop-t-preserved c =
-    let slot = c.slot_at-high.ensures.value in
-    let days : length c.loop-t.days ≡ length c.args.windows.now = omega arith in
-    let lots : length c.args.windows.now ≤ length c.loop-t.lots = omega arith in
+pub loop-high-preserved : goal.loop-high-preserved
+loop-high-preserved c =
+    let n = length_order _ _ c.requires.shuffled in
+    let days : length c.loop-high.days ≡ length c.args.season.windows.now = omega arith in
+    let lots : length c.args.season.windows.now ≤ length c.loop-high.lots = omega arith in
     elim c.if-count-eq0.branch [
       | then-count-eq0 w ↦
-          simp (w.point-is, w.lots-is, w.count-is, slot)
-          (opens _ _ _ _ _ _ _ c.loop-t.invariant c.requires.sound c.requires.shuffled c.requires.rises c.loop-t-test.true days lots
+          simp (w.point-is, w.lots-is, w.count-is)
+          (opens _ _ _ _ _ _ _ c.loop-high.invariant c.args.season.sound c.requires.shuffled c.requires.rises (omega arith) days lots
           (elim w.then-count-eq0.branch [
             | then-count-eq0-via-then-count-eq0 v ↦ inl v.if-count-eq0.true
-            | then-count-eq0-via-else-count-eq0+then-windows-place v ↦
-                inr (subst (λ s. c.loop-t.point < (window_at c.args.windows.now s.1).low) slot v.if-windows-place.true)
+            | then-count-eq0-via-else-count-eq0+then-season-place v ↦
+                inr v.if-season-place.true
           ]))
-      | else-count-eq0+else-windows-place w ↦
-          let some : 0 < c.loop-t.count = omega (arith, w.if-count-eq0.false) in
-          simp (w.point-is, w.lots-is, w.count-is, slot)
-          (joins _ _ _ _ _ _ _ c.loop-t.invariant c.requires.sound c.requires.shuffled c.requires.rises c.loop-t-test.true days lots some
-          (subst (λ s. (window_at c.args.windows.now s.1).low ≤ c.loop-t.point) slot w.if-windows-place.false))
+      | else-count-eq0+else-season-place w ↦
+          let some : 0 < c.loop-high.count = omega (arith, w.if-count-eq0.false) in
+          simp (w.point-is, w.lots-is, w.count-is)
+          (joins _ _ _ _ _ _ _ c.loop-high.invariant c.args.season.sound c.requires.shuffled c.requires.rises (omega arith) days lots some
+          w.if-season-place.false)
     ]
 
 pub returns : goal.returns
 returns c =
-    let days : length c.loop-t.days ≡ length c.args.windows.now = omega arith in
-    let lots : length c.args.windows.now ≤ length c.loop-t.lots = omega arith in
-    let all : c.loop-t.t ≡ length c.args.windows.now = omega arith in
-    let done : Pointed c.args.windows.now c.args.order.now c.loop-t.days c.loop-t.lots (length c.args.windows.now) c.loop-t.count c.loop-t.point =
-    subst (λ t. Pointed c.args.windows.now c.args.order.now c.loop-t.days c.loop-t.lots t c.loop-t.count c.loop-t.point) all c.loop-t.invariant in
+    let days : length c.loop-high.days ≡ length c.args.season.windows.now = omega arith in
+    let lots : length c.args.season.windows.now ≤ length c.loop-high.lots = omega arith in
+    let n = length_order _ _ c.requires.shuffled in
+    let all : c.loop-high.high-index ≡ length c.args.season.windows.now = omega arith in
+    let done : Pointed c.args.season.windows.now c.args.order.now c.loop-high.days c.loop-high.lots (length c.args.season.windows.now) c.loop-high.count c.loop-high.point =
+    subst (λ t. Pointed c.args.season.windows.now c.args.order.now c.loop-high.days c.loop-high.lots t c.loop-high.count c.loop-high.point) all c.loop-high.invariant in
     record {
       shown = pointed_least _ _ _ _ _ _ done c.requires.shuffled days lots;
       room = done.few;
       points = pointed_points _ _ _ _ _ _ done c.requires.shuffled days lots;
     }
+
+pub offset_bounds-season-place : goal.offset_bounds-season-place
+offset_bounds-season-place c = let lot = names_lot _ _ c.requires.shuffled c.loop-high.high-index (omega arith) in search rules
+
+pub bounds-season-place : goal.bounds-season-place
+bounds-season-place c = names_lot _ _ c.requires.shuffled c.loop-high.high-index (omega arith)
+
+pub overflow_cast-lots : goal.overflow_cast-lots
+overflow_cast-lots c = let lot = names_lot _ _ c.requires.shuffled c.loop-high.high-index (omega arith) in search rules
+
+pub bounds-lots-count : goal.bounds-lots-count
+bounds-lots-count c = omega (arith, c.loop-high.invariant.few, length_order _ _ c.requires.shuffled)
+
+pub offset_bounds-days-place : goal.offset_bounds-days-place
+offset_bounds-days-place c = let lot = names_lot _ _ c.requires.shuffled c.loop-high.high-index (omega arith) in search rules
+
+pub bounds-days-place : goal.bounds-days-place
+bounds-days-place c = let lot = names_lot _ _ c.requires.shuffled c.loop-high.high-index (omega arith) in search rules

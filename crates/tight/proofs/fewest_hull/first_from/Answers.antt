@@ -1,31 +1,19 @@
--- The place where a day stands among ascending points, or would stand, is that of the first one at or past it.
-use Rattle.std.proofs.Common.{◌<◌, length, get_or, Ok, Err, arith}
-use Rattle.std.proofs.lemmas.List.Sorted.{searched}
+-- The points before a day stand first, so where they end is the first one at or past it.
+use Rattle.std.proofs.Common.{ℕ, ◌<◌, ltb, length, get_or, arith, of_calls, ltb-false}
+use Rattle.std.proofs.lemmas.List.Sorted.{IsNonDecreasingBy-from_default, IsPartitionPoint-from_clause, IsPartitionedBy-ltb}
+use Rattle.std.proofs.lemmas.Bool.Decides.{Decides-ltb}
 use Rattle.tight.proofs.Rungs.{ascends_le}
 use Rattle.tight.proofs.fewest_hull.first_from.Goals as goal
 
-pub returns-in-Ok : goal.returns-in-Ok
-returns-in-Ok c =
+pub returns : goal.returns
+returns c =
     let ps = c.args.points.now in
-    let k = c.in-Ok.k in
-    let up = c.requires.ascending in
-    let s = searched ps c.args.low (Ok k) c.in-Ok.ensures.position (ascends_le (λ j. get_or ps j 0) (length ps) up) in
-    record {
-      there = s.0;
-      before = λ j h. omega (arith, up j k h s.0, s.1);
-      reached = omega (arith, s.1);
-    }
-
-pub returns-in-Err : goal.returns-in-Err
-returns-in-Err c =
-    let ps = c.args.points.now in
-    let k = c.in-Err.k in
-    let up = c.requires.ascending in
-    let s = searched ps c.args.low (Err k) c.in-Err.ensures.position (ascends_le (λ j. get_or ps j 0) (length ps) up) in
+    let low = c.args.low in
+    let up = ascends_le (λ j. get_or ps j 0) (length ps) c.requires.ascending in
+    let rises = IsNonDecreasingBy-from_default (λ p. p) ps 0 up in
+    let parted = IsPartitionPoint-from_clause (λ p. ltb p low) ps c.partition_point.result c.partition_point.ensures.partitioned (IsPartitionedBy-ltb (λ p. p) ps low rises) (search of_calls) in
+    let before : (j : ℕ) → j < c.partition_point.result → get_or ps j 0 < low = λ j h. (Decides-ltb (get_or ps j 0) low).0 (parted.0 j 0 (omega arith) h) in
     let r = c.requires.reached in
-    let there : k < length ps = grind (arith, s.1 r.0, r.1, r.2) in
-    record {
-      there = there;
-      before = s.1;
-      reached = omega (arith, s.2 k (omega arith) there);
-    }
+    let there : c.partition_point.result < length ps = grind (arith, before r.0, r.1, r.2, c.partition_point.ensures.bound) in
+    let not_before = ltb-false (get_or ps c.partition_point.result 0) low (parted.1 c.partition_point.result 0 (omega arith) there) in
+    record { there = there; before = before; reached = not_before }

@@ -6,8 +6,8 @@ use Rattle.store.specs.Windows.{window_at}
 use Rattle.extremes.specs.Points.{lasts}
 use Rattle.tight.proofs.fewest_hull.last_days.Goals as goal
 
-pub bounds-windows-lots : goal.bounds-windows-lots
-bounds-windows-lots c =
+pub bounds-windows-lot : goal.bounds-windows-lot
+bounds-windows-lot c =
     let there = All-get_or (λ lot. lot < length c.args.windows.now) c.args.lots.now c.loop-i.i 0 (omega arith) c.requires.there in
     search rules
 

@@ -5,4 +5,4 @@ use Rattle.tight.proofs.Rungs.{Narrowed}
 use Rattle.tight.proofs.fewest_hull.narrow.Given as goal
 
 abbrev pub invariant-loop-i : goal.invariant-loop-i
-invariant-loop-i l = (k : ℕ) → k < l.i → Narrowed (window_at l.windows k) l.points l.image_points (window_at l.hull k)
+invariant-loop-i l = (k : ℕ) → k < l.i → Narrowed (window_at l.season.windows.now k) l.points l.image_points (window_at l.hull k)

@@ -10,14 +10,14 @@ last_days-requires c =
     let m = c.fewest_of-count.result in
     let z : m - 0 ≡ m = omega arith in
     record {
-      there = subst (λ k. AllByRecursion (λ lot. lot < length c.args.windows.now) (take k c.fewest_of-count.new.lots)) (sym z) c.fewest_of-count.ensures.shown.there;
+      there = subst (λ k. AllByRecursion (λ lot. lot < length c.args.season.windows.now) (take k c.fewest_of-count.new.lots)) (sym z) c.fewest_of-count.ensures.shown.there;
       each = search (rules, places);
     }
 
 pub returns : goal.returns
 returns c =
     let m = c.fewest_of-count.result in
-    let ws = c.args.windows.now in
+    let ws = c.args.season.windows.now in
     let days = c.last_days.new.days in
     let z : m - 0 ≡ m = omega arith in
     let are : days ≡ lasts ws (take m c.fewest_of-count.new.lots) = c.last_days.ensures ∙ ap (λ k. lasts ws (take k c.fewest_of-count.new.lots)) z in

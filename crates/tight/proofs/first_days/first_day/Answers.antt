@@ -9,14 +9,14 @@ use Rattle.tight.proofs.first_days.first_day.Goals as goal
 use Rattle.tight.proofs.first_days.first_day.Goals.{in-Some, in-None}
 
 pub bounds-left-lot : goal.bounds-left-lot
-bounds-left-lot c = omega (arith, choice_length c.args.windows.now c.args.left.now c.requires.left.choice)
+bounds-left-lot c = omega (arith, choice_length c.args.season.windows.now c.args.left.now c.requires.left.choice)
 
 pub overflow_sub-width : goal.overflow_sub-width
-overflow_sub-width c = (choice_get_or c.args.windows.now c.args.left.now c.requires.left.choice c.args.lot c.requires.there).0
+overflow_sub-width c = (choice_get_or c.args.season.windows.now c.args.left.now c.requires.left.choice c.args.lot c.requires.there).0
 
 pub loop-first-init : goal.loop-first-init
 loop-first-init c =
-    let ws = c.args.windows.now in
+    let ws = c.args.season.windows.now in
     let best = c.requires.left in
     let inside = choice_get_or ws c.args.left.now best.choice c.args.lot c.requires.there in
     record {
@@ -30,22 +30,20 @@ loop-first-init c =
     }
 
 pub can_move-requires : goal.can_move-requires
-can_move-requires c = omega (arith, choice_length c.args.windows.now c.args.left.now c.requires.left.choice)
+can_move-requires c = omega (arith, choice_length c.args.season.windows.now c.args.left.now c.requires.left.choice)
 
 pub can_move-requires-then-not-can_move : goal.can_move-requires-then-not-can_move
-can_move-requires-then-not-can_move c = omega (arith, choice_length c.args.windows.now c.args.right.now c.requires.right.choice)
+can_move-requires-then-not-can_move c = omega (arith, choice_length c.args.season.windows.now c.args.right.now c.requires.right.choice)
 
 pub overflow_add-end : goal.overflow_add-end
 overflow_add-end c =
-    let sound = All-get_or Sound c.args.windows.now c.args.lot (window 0 0) c.requires.there c.requires.sound in
+    let sound = All-get_or Sound c.args.season.windows.now c.args.lot (window 0 0) c.requires.there c.args.season.sound in
     omega (arith, c.loop-first.invariant.fits c.loop-first-test.true, sound.1)
 
 pub best_before-requires : goal.best_before-requires
 best_before-requires c =
     let inv = c.loop-first.invariant in
     record {
-      sound = c.requires.sound;
-      few = c.requires.few;
       there = c.requires.there;
       some = omega (arith, inv.some c.loop-first-test.true);
       low = inv.low;
@@ -55,7 +53,7 @@ best_before-requires c =
 
 pub loop-first-preserved : goal.loop-first-preserved
 loop-first-preserved c =
-    let ws = c.args.windows.now in
+    let ws = c.args.season.windows.now in
     let lot = c.args.lot in
     let inv = c.loop-first.invariant in
     elim c.match-best_before.branch [

@@ -4,7 +4,7 @@ use Rattle.tight.proofs.Firsts.{Bracket}
 use Rattle.tight.proofs.first_days.first_day.Given as goal
 
 abbrev pub invariant-loop-first : goal.invariant-loop-first
-invariant-loop-first l = Bracket l.windows l.lot l.first l.last l.width
+invariant-loop-first l = Bracket l.season.windows.now l.lot l.first l.last l.width
 
 abbrev pub decreases-loop-first : goal.decreases-loop-first
 decreases-loop-first l = l.last - l.first

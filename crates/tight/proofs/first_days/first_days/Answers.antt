@@ -5,4 +5,4 @@ use Rattle.tight.proofs.first_days.first_days.Goals as goal
 
 pub loop-lot-preserved : goal.loop-lot-preserved
 loop-lot-preserved c =
-    first_more c.args.windows.now c.loop-lot.firsts c.loop-lot.lot c.first_day.result (search rules) c.loop-lot.invariant c.first_day.ensures
+    first_more c.args.season.windows.now c.loop-lot.firsts c.loop-lot.lot c.first_day.result (search rules) c.loop-lot.invariant c.first_day.ensures

@@ -1,14 +1,12 @@
 -- What the greatest count of the windows with the lot narrowed to the days shows of them.
 use Rattle.std.proofs.Common.{◌≡◌, length, rules}
-use Rattle.tight.proofs.Narrowed.{reached, refused, sound_narrowed}
+use Rattle.tight.proofs.Narrowed.{reached, refused}
 use Rattle.tight.proofs.trial.best_before.Goals as goal
 
 pub most_of-found-requires : goal.most_of-found-requires
 most_of-found-requires c =
-    let long : length c.narrow_lot.new.narrowed ≡ length c.args.windows.now = search rules in
+    let long : length c.narrow_lot.new.narrowed ≡ length c.args.season.windows.now = search rules in
     record {
-      sound = sound_narrowed _ _ c.args.from c.args.end c.requires.there c.requires.some c.requires.low c.requires.high _ c.narrow_lot.ensures c.requires.sound;
-      few = search rules;
       day_each = search rules;
       run_room = search rules;
     }
