@@ -1,6 +1,6 @@
 -- What fewest and most are asked: which checks refuse, in which order, and what the lent memory holds afterwards.
 -- `work` is how many working words were lent, `room` how many answer words.
-use Rattle.std.specs.Prelude.{◌≡◌, ℕ, ◌+◌, ◌-◌, ◌*◌, ◌<◌, ◌≤◌, ◌⊎◌, List, map, length, take, drop}
+use Rattle.std.specs.Prelude.{◌≡◌, ℕ, ◌+◌, ◌-◌, ◌*◌, ◌<◌, ◌≤◌, ◌⊎◌, List, map, length, take, drop, Result, MatchResult}
 use Rattle.std.specs.List.{AllByRecursion}
 use Rattle.store.specs.declared.window.Window.{Window}
 use Rattle.store.specs.Pairs.{paired}
@@ -8,6 +8,7 @@ use Rattle.nvalue.specs.Choices.{part}
 use Rattle.count.specs.declared.fault.CountFault.{CountFault}
 use Rattle.count.specs.declared.fault.CountFault.TheVariants.{ShortWork, TooManyLots, FaultyWindow, NoSuchStretch, ShortAnswer}
 use Rattle.extremes.specs.Shown.{Least, Greatest}
+use Rattle.extremes.specs.declared.matching.Most.{Most}
 use Rattle.store.specs.Sound.{FirstFaulty, Sound}
 
 -- windows that no question is answered for: more than 256, or a faulty one
@@ -43,3 +44,15 @@ pub record MostAnswer (ws : List Window) (was is : List ℕ) (m s : ℕ) : Type 
   pub shown : Greatest ws (take (length ws) is) (paired (part is (length ws) (2 * s))) m
   pub many : length (paired (part is (length ws) (2 * s))) ≡ s
   pub rest : drop (length ws + 2 * s) is ≡ drop (length ws + 2 * s) was
+
+-- the same where count and runs are one value
+abbrev pub MostShown : List Window → ℕ → List ℕ → List ℕ → Most → Type 0
+MostShown ws first was is m = MostAnswer ws was is m.count m.runs
+
+-- A question about the stretch of `len` lots from the lot `first` on answers `r`, and the answer words are `is` in place of `was`: with nothing against it, what it
+-- answers holds of the windows of the stretch; else the first check that fails is named, and the answer words stay.
+abbrev pub Asks : {C : Type 0} → (List Window → ℕ → List ℕ → List ℕ → C → Type 0) → ℕ → List Window → ℕ → ℕ → List ℕ → Result C CountFault → List ℕ → Type 0
+Asks Answers work ws first len was r is =
+    MatchResult r
+    (λ m. Accepts work ws first len (length was) × Answers (part ws first len) first was is m)
+    (λ e. Refuses work ws first len (length was) e × (is ≡ was))

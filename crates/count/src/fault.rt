@@ -1,7 +1,8 @@
 // Why a question for the fewest or the most days is refused. A refusal writes no answer word.
-ghost use Rattle.std.specs.Prelude.{◌≡◌};
-ghost use Rattle.count.specs.Faults.{number_of, of_season, place_of};
+ghost use Rattle.std.specs.Prelude.{◌≡◌, Some};
+ghost use Rattle.count.specs.Faults.{fault_text, number_of, of_season, place_of};
 
+use std::fmt;
 use store::season::SeasonFault;
 
 #[derive(Clone, Copy, PartialEq, Eq, Debug)]
@@ -40,6 +41,15 @@ impl CountFault {
             CountFault::FaultyWindow(place) => place,
             _ => 0,
         }
+    }
+}
+
+// The number, and the lot that is named.
+impl fmt::Display for CountFault {
+    ghost output = { λ fault. Some (fault_text fault) };
+
+    fn fmt<W: fmt::Write>(&self, f: &mut fmt::Formatter<W>) -> fmt::Result {
+        write!(f, "refused {} place {}", self.number(), self.place())
     }
 }
 

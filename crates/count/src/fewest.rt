@@ -1,9 +1,7 @@
 // The fewest different days of a stretch, over any store.
-ghost use Rattle.std.specs.Prelude.{◌≡◌, ℕ, ◌+◌, ◌*◌, ◌<◌, ◌≤◌, map, length, MatchResult, slice_index};
+ghost use Rattle.std.specs.Prelude.{◌≡◌, ◌+◌, ◌*◌, ◌<◌, ◌≤◌, map, length};
 ghost use Rattle.std.specs.List.{AllByRecursion};
-ghost use Rattle.nvalue.specs.Choices.{part};
-ghost use Rattle.count.specs.Asked.{Accepts, Refuses, FewestAnswer};
-ghost use Rattle.store.specs.Sound.{Sound};
+ghost use Rattle.count.specs.Asked.{Asks, FewestAnswer};
 ghost use Rattle.page.specs.Cleared.{Cleared};
 
 use crate::fault::CountFault;
@@ -22,7 +20,7 @@ pub fn fewest<S: WindowStore>(
     answer: &mut [u32],
     work: &mut [u32],
 ) -> Result<usize, CountFault>
-    ensures asked { MatchResult result (λ m. Accepts (length work.old) (S.WindowStore.windows store.now) stretch.first stretch.length (length answer.old) × FewestAnswer (part (S.WindowStore.windows store.now) stretch.first stretch.length) stretch.first answer.old answer.new m) (λ e. Refuses (length work.old) (S.WindowStore.windows store.now) stretch.first stretch.length (length answer.old) e × (answer.new ≡ answer.old)) }
+    ensures asked { Asks FewestAnswer (length work.old) (S.WindowStore.windows store.now) stretch.first stretch.length answer.old result answer.new }
     ensures cleared { Cleared work.old work.new }
 {
     ask::<LeastCount, S>(store, stretch, answer, work)

@@ -1,10 +1,7 @@
 // The most different days of a stretch, over any store.
-ghost use Rattle.std.specs.Prelude.{◌≡◌, ℕ, ◌+◌, ◌*◌, ◌<◌, ◌≤◌, length, MatchResult, slice_index};
-ghost use Rattle.std.specs.List.{AllByRecursion};
+ghost use Rattle.std.specs.Prelude.{◌≡◌, ◌+◌, ◌*◌, ◌<◌, length};
 ghost use Rattle.store.specs.Pairs.{paired};
-ghost use Rattle.nvalue.specs.Choices.{part};
-ghost use Rattle.count.specs.Asked.{Accepts, Refuses, MostAnswer};
-ghost use Rattle.store.specs.Sound.{Sound};
+ghost use Rattle.count.specs.Asked.{Asks, MostShown};
 ghost use Rattle.page.specs.Cleared.{Cleared};
 
 use crate::fault::CountFault;
@@ -27,7 +24,7 @@ pub fn most<S: WindowStore>(
     answer: &mut [u32],
     work: &mut [u32],
 ) -> Result<Most, CountFault>
-    ensures asked { MatchResult result (λ m. Accepts (length work.old) (S.WindowStore.windows store.now) stretch.first stretch.length (length answer.old) × MostAnswer (part (S.WindowStore.windows store.now) stretch.first stretch.length) answer.old answer.new m.count m.runs) (λ e. Refuses (length work.old) (S.WindowStore.windows store.now) stretch.first stretch.length (length answer.old) e × (answer.new ≡ answer.old)) }
+    ensures asked { Asks MostShown (length work.old) (S.WindowStore.windows store.now) stretch.first stretch.length answer.old result answer.new }
     ensures cleared { Cleared work.old work.new }
 {
     ask::<GreatestCount, S>(store, stretch, answer, work)
@@ -39,7 +36,7 @@ struct GreatestCount;
 impl Question for GreatestCount {
     type Count = Most;
 
-    ghost Answers = { λ ws first was is m. MostAnswer ws was is m.count m.runs };
+    ghost Answers = { MostShown };
 
     fn find(season: Season, first: usize, answer: &mut [u32]) -> Most {
         let lots = season.windows.len();

@@ -2,7 +2,7 @@
 ghost use Rattle.std.specs.Prelude.{◌≡◌, ℕ, ◌+◌, ◌*◌, ◌<◌, ◌≤◌, List, ◌⊎◌, length, MatchResult, slice_index};
 ghost use Rattle.store.specs.declared.window.Window.{Window};
 ghost use Rattle.nvalue.specs.Choices.{part};
-ghost use Rattle.count.specs.Asked.{Accepts, Refuses};
+ghost use Rattle.count.specs.Asked.{Asks};
 ghost use Rattle.count.specs.declared.fault.CountFault.TheVariants.{NoSuchStretch};
 ghost use Rattle.page.specs.Cleared.{Cleared};
 
@@ -36,7 +36,7 @@ pub(crate) fn ask<Q: Question, S: WindowStore>(
     answer: &mut [u32],
     work: &mut [u32],
 ) -> Result<Q::Count, CountFault>
-    ensures asked { MatchResult result (λ m. Accepts (length work.old) (S.WindowStore.windows store.now) stretch.first stretch.length (length answer.old) × Q.Question.Answers (part (S.WindowStore.windows store.now) stretch.first stretch.length) stretch.first answer.old answer.new m) (λ e. Refuses (length work.old) (S.WindowStore.windows store.now) stretch.first stretch.length (length answer.old) e × (answer.new ≡ answer.old)) }
+    ensures asked { Asks Q.Question.Answers (length work.old) (S.WindowStore.windows store.now) stretch.first stretch.length answer.old result answer.new }
     ensures cleared { Cleared work.old work.new }
 {
     if work.len() < WORDS {
@@ -53,7 +53,7 @@ fn ask_on<Q: Question, S: WindowStore>(
     page: &mut [u32],
 ) -> Result<Q::Count, CountFault>
     requires { length page.old ≡ 4096 }
-    ensures asked { (work : ℕ) → 4096 ≤ work → MatchResult result (λ m. Accepts work (S.WindowStore.windows store.now) stretch.first stretch.length (length answer.old) × Q.Question.Answers (part (S.WindowStore.windows store.now) stretch.first stretch.length) stretch.first answer.old answer.new m) (λ e. Refuses work (S.WindowStore.windows store.now) stretch.first stretch.length (length answer.old) e × (answer.new ≡ answer.old)) }
+    ensures asked { (work : ℕ) → 4096 ≤ work → Asks Q.Question.Answers work (S.WindowStore.windows store.now) stretch.first stretch.length answer.old result answer.new }
     ensures zero { (k : ℕ) → k < length page.new → slice_index page.new k ≡ 0 }
 {
     let page = Page { words: page };

@@ -1,7 +1,6 @@
 // The most different days of a list of windows: a matching of lots to days, in which lots in the order of their last days take the earliest free day of their window.
 ghost use Rattle.std.specs.Prelude.{◌≡◌, ℕ, ◌+◌, ◌-◌, ◌<◌, ◌≤◌, length, take};
 ghost use Rattle.std.specs.List.Sorted.{IsNonDecreasingBy, IsPermutation};
-ghost use Rattle.std.specs.List.{AllByRecursion};
 ghost use Rattle.store.specs.Windows.{window_at};
 ghost use Rattle.extremes.specs.Orders.{slots};
 ghost use Rattle.extremes.specs.Shown.{Greatest};

@@ -1,11 +1,9 @@
 // The fewest different days of a list of windows: lots in the order of their last days take the last point, or open one at their own last day.
 ghost use Rattle.std.specs.Prelude.{◌≡◌, ◌≤◌, length, take};
-ghost use Rattle.std.specs.List.{AllByRecursion};
 ghost use Rattle.std.specs.List.Sorted.{IsNonDecreasingBy, IsPermutation};
 ghost use Rattle.extremes.specs.Orders.{slots};
 ghost use Rattle.extremes.specs.Points.{lasts, Points};
 ghost use Rattle.extremes.specs.Shown.{Least};
-ghost use Rattle.store.specs.Sound.{Sound};
 
 use crate::order::{Slot, order_by_high};
 use store::limits::LOTS;

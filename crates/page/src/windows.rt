@@ -1,8 +1,6 @@
 // Windows on a page of words, where low and high of each lot stand in turn: copied from a store, and read back as windows.
-ghost use Rattle.std.specs.Prelude.{◌≡◌, ◌+◌, ◌*◌, ◌<◌, ◌≤◌, length, take, MatchOption, slice_set};
-ghost use Rattle.std.specs.List.{AllByRecursion};
+ghost use Rattle.std.specs.Prelude.{◌≡◌, ◌+◌, ◌*◌, ◌<◌, ◌≤◌, length, take, slice_set};
 ghost use Rattle.store.specs.Pairs.{paired};
-ghost use Rattle.store.specs.Sound.{FirstFaulty, Sound};
 ghost use Rattle.store.specs.Windows.{window_at};
 
 use store::store::{WindowStore, read_window};

@@ -1,5 +1,6 @@
 pub mod Pairs
 pub mod Seasons
 pub mod Sound
+pub mod Texts
 pub mod Verdicts
 pub mod Windows

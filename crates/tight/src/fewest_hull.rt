@@ -5,7 +5,6 @@ ghost use Rattle.extremes.specs.Mirror.{mirrored};
 ghost use Rattle.extremes.specs.Points.{lasts, Points};
 ghost use Rattle.tight.specs.FirstUsed.{Ascending, Reached, FirstUsed};
 ghost use Rattle.extremes.specs.Shown.{HasFewest};
-ghost use Rattle.store.specs.Sound.{Sound};
 ghost use Rattle.tight.specs.Tight.{Hull};
 
 use extremes::mirror::{flip_day, mirror_season};

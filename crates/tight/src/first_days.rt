@@ -1,8 +1,6 @@
 // The first day of each lot among the choices with the most different days.
-ghost use Rattle.std.specs.Prelude.{◌≡◌, ◌<◌, ◌≤◌, length};
-ghost use Rattle.std.specs.List.{AllByRecursion};
+ghost use Rattle.std.specs.Prelude.{◌≡◌, ◌<◌, length};
 ghost use Rattle.tight.specs.FirstDays.{Best, MostIs, FirstDay, FirstDays};
-ghost use Rattle.store.specs.Sound.{Sound};
 
 use crate::trial::{best_before, can_move};
 use extremes::matching::most_of;

@@ -1,9 +1,7 @@
 // The smallest windows that hold every choice with the most different days.
-ghost use Rattle.std.specs.Prelude.{◌≡◌, ◌≤◌, length};
-ghost use Rattle.std.specs.List.{AllByRecursion};
+ghost use Rattle.std.specs.Prelude.{◌≡◌, length};
 ghost use Rattle.tight.specs.FirstDays.{LastDays};
 ghost use Rattle.extremes.specs.Shown.{HasMost};
-ghost use Rattle.store.specs.Sound.{Sound};
 ghost use Rattle.tight.specs.Tight.{Hull};
 
 use crate::first_days::first_days;

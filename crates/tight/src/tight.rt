@@ -3,8 +3,7 @@ ghost use Rattle.std.specs.Prelude.{◌≡◌, ℕ, ◌≤◌, List, length, Mat
 ghost use Rattle.std.specs.List.{AllByRecursion};
 ghost use Rattle.nvalue.specs.Choices.{Choice};
 ghost use Rattle.count.specs.Asked.{Unfit};
-ghost use Rattle.extremes.specs.Shown.{HasFewest, HasMost};
-ghost use Rattle.store.specs.Sound.{FirstFaulty, Sound};
+ghost use Rattle.store.specs.Sound.{Sound};
 ghost use Rattle.nvalue.specs.Nvalue.{Counts};
 ghost use Rattle.tight.specs.Tight.{Hull, IsGreatest, IsLeast, Tightest};
 

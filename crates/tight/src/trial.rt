@@ -1,10 +1,8 @@
 // Trying days for a lot: whether a choice with the most different days gives it one of them.
 ghost use Rattle.std.specs.Prelude.{◌≡◌, ℕ, ◌<◌, ◌≤◌, true, length, MatchOption, ◌≢◌, slice_index, slice_set};
-ghost use Rattle.std.specs.List.{AllByRecursion};
 ghost use Rattle.store.specs.Windows.{window_at};
 ghost use Rattle.nvalue.specs.Nvalue.{nvalue};
 ghost use Rattle.tight.specs.FirstDays.{MostIs, ReachedBefore, Refused};
-ghost use Rattle.store.specs.Sound.{Sound};
 
 use extremes::matching::most_of;
 use store::limits::LOTS;
