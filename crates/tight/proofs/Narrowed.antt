@@ -1,7 +1,5 @@
 -- Windows with one lot narrowed to a range of its days: their choices, and what their greatest count shows of the days in the range.
-use Rattle.std.proofs.Common.{◌≡◌, ℕ, zero, suc, ◌-◌, ◌<◌, ◌≤◌, List, [], ◌∷◌, length, get_or, set, sym, refl, subst, arith}
-use Rattle.std.specs.List.{AllByRecursion}
-use Rattle.std.proofs.ByRecursion.{All-get_or, All-set}
+use Rattle.std.proofs.Common.{◌≡◌, ℕ, zero, suc, ◌-◌, ◌<◌, ◌≤◌, List, [], ◌∷◌, length, get_or, set, refl, subst, arith}
 use Rattle.std.proofs.lemmas.List.{get_or-set_same, length-set}
 use Rattle.store.specs.declared.window.Window.{Window}
 use Rattle.store.specs.Windows.{window, window_at}
@@ -9,7 +7,6 @@ use Rattle.nvalue.specs.Choices.{In, Choice}
 use Rattle.nvalue.proofs.Choices.{choice_get_or}
 use Rattle.tight.specs.FirstDays.{MostIs, ReachedBefore, Refused}
 use Rattle.extremes.specs.Shown.{Greatest}
-use Rattle.store.specs.Sound.{Sound}
 
 -- a choice with its day for a lot in a range is one for the windows with that range
 choice_narrowed : (ws : List Window) (ds : List ℕ) (i : ℕ) (r : Window) → In r (get_or ds i 0) → Choice ws ds → Choice (set ws i r) ds
@@ -34,11 +31,6 @@ narrowed ws lot from end = set ws lot (window from (end - 1))
 -- `copy` is such windows, with some days left, all in the lot's window
 module _ (ws : List Window) (lot from end : ℕ) (there : lot < length ws) (some : from < end) (low : (window_at ws lot).low ≤ from) (high : end ≤ (window_at ws lot).high)
     (copy : List Window) (same : copy ≡ narrowed ws lot from end) where
-  pub sound_narrowed : AllByRecursion Sound ws → AllByRecursion Sound copy
-  sound_narrowed s =
-      let w = All-get_or Sound ws lot (window 0 0) there s in
-      subst (AllByRecursion Sound) (sym same) (All-set Sound ws lot (window from (end - 1)) (omega arith, omega (arith, w.1)) s)
-
   -- k is the greatest count of the copy
   module _ (m : ℕ) (count : MostIs ws m) (days : List ℕ) (runs : List Window) (k : ℕ) (found : Greatest copy days runs k) where
     shown : Greatest (narrowed ws lot from end) days runs k

@@ -34,10 +34,6 @@ module _ (ws : List Window) (least most floor ceiling : ℕ) (lo : IsLeast ws le
       let z = counts_between ws l.0 h.0 (length ws) k l.1 h.1 (past l.0 l.1 ∙ sym (past h.0 h.1)) (omega (arith, l.2)) (omega (arith, h.2)) in
       (z.0, z.1, z.3)
 
-  -- nothing is left
-  pub none_left : (ceiling < least) ⊎ (most < floor) → (ds : List ℕ) → Choice ws ds → Counts floor ceiling ds → ⊥
-  none_left out ds c k = elim out [ inl a ↦ omega (arith, lo.least ds c, k.1) | inr b ↦ omega (arith, hi.greatest ds c, k.0) ]
-
   -- where neither end of the count window is tight, or all choices have one count, every day of a window is used
   used : ((least < ceiling) × (floor < most)) ⊎ (least ≡ most) → least ≤ ceiling → floor ≤ most → (i d : ℕ) → i < length ws → In (window_at ws i) d
       → (ds : List ℕ) × Choice ws ds × Counts floor ceiling ds × (get_or ds i 0 ≡ d)

@@ -47,6 +47,7 @@ fn best_from_right(season: Season, days: &mut [u32])
     mirror_days(days);
 }
 
+// `Best` goes by recursion over a choice, so no ghost field can hold it as it stands, and these facts about `left` and `right` stay clauses.
 // The first day that a choice with the most different days, `most`, gives to a lot: no such choice gives it one before `first`, and one gives it `last`.
 // Each turn tries `width` days: at first all those before the day in `left`, which often is the one sought, then half of what is left. `left` takes early days, fewer than 256 past the window's first, so nine trials do.
 // Where the lot can move to `first` in `left` or `right` none is needed.
