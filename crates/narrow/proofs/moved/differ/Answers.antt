@@ -5,7 +5,7 @@ use Rattle.std.proofs.lemmas.Bool.Decides.{Decides-eqb}
 use Rattle.std.proofs.lemmas.Slice.Eq.{slice_eq-Decides}
 use Rattle.store.specs.declared.window.Window.{Window}
 use Rattle.store.specs.Windows.{window}
-use Rattle.narrow.proofs.due.differ.Goals as goal
+use Rattle.narrow.proofs.moved.differ.Goals as goal
 
 -- two windows are the same where both ends are
 window_Decides : (a b : Window) → Decides (eqb a.low b.low && eqb a.high b.high) (a ≡ b)
