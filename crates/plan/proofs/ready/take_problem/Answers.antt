@@ -2,7 +2,7 @@ use Rattle.std.proofs.Common.{take, refl, ap, ◌∙◌, subst, arith}
 use Rattle.store.specs.Pairs.{paired}
 use Rattle.store.specs.Sound.{FirstFaulty}
 use Rattle.plan.specs.Ready.{faulty_window}
-use Rattle.plan.proofs.ready.take_windows.Goals as goal
+use Rattle.plan.proofs.ready.take_problem.Goals as goal
 
 pub returns-in-Some : goal.returns-in-Some
 returns-in-Some g c work enough =
