@@ -74,11 +74,7 @@ pub fn add_rows(slip: &mut Draft, book: &mut Book, rows: &[Row]) -> Result<(), S
     let number = slip.rules;
     let old = *book;
     for row in rows {
-        let stretch = Stretch {
-            first: row.first,
-            length: row.length,
-        };
-        if let Err(fault) = add_rule(slip, book, stretch, row.floor, row.ceiling) {
+        if let Err(fault) = add_rule(slip, book, row.stretch(), row.floor, row.ceiling) {
             slip.rules = number;
             *book = old;
             return Err(fault);
