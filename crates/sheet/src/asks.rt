@@ -1,6 +1,6 @@
 // The asks: with a closed slip, a lot's window or a rule's count window is narrowed.
 ghost use Rattle.std.specs.Prelude.{◌≡◌, ◌<◌, ◌≤◌, min, max, ◌⊎◌, length, MatchResult, ◌≢◌};
-ghost use Rattle.sheet.specs.Asks.{AllAgree, NotBefore, NotAfter, AtLeast, AtMost};
+ghost use Rattle.sheet.specs.Asks.{AllAgree, NotBefore, NotAfter, AtLeast, AtMost, told};
 ghost use Rattle.sheet.specs.Books.{rule_at, rules_of};
 ghost use Rattle.sheet.specs.Drafts.{Agree};
 ghost use Rattle.sheet.specs.declared.fault.SheetFault.TheVariants.{Mismatch, NoSuchDay, NoSuchRule};
@@ -9,6 +9,7 @@ use crate::book::Book;
 use crate::fault::{SheetFault, about_lot};
 use crate::slip::Closed;
 use nvalue::count_window::CountWindow;
+use store::fault::StoreFault;
 use store::store::WindowStore;
 
 const LAST_DAY: u32 = 9999;
@@ -27,8 +28,7 @@ pub fn not_before<S: WindowStore>(
     ensures framed { S.WindowStore.frame store.new ≡ S.WindowStore.frame store.old }
 {
     may_ask(slip, book, store, day)?;
-    about_lot(lot, store.raise(lot, day))?;
-    Ok(())
+    answered(lot, store.raise(lot, day))
 }
 
 // A lot is to be extracted on a day or earlier.
@@ -45,7 +45,14 @@ pub fn not_after<S: WindowStore>(
     ensures framed { S.WindowStore.frame store.new ≡ S.WindowStore.frame store.old }
 {
     may_ask(slip, book, store, day)?;
-    about_lot(lot, store.lower(lot, day))?;
+    answered(lot, store.lower(lot, day))
+}
+
+// What a house is told of a store's answer about a lot.
+fn answered(lot: usize, answer: Result<(), StoreFault>) -> Result<(), SheetFault>
+    ensures { result ≡ told lot answer }
+{
+    about_lot(lot, answer)?;
     Ok(())
 }
 
