@@ -62,9 +62,7 @@ pub fn at_least(slip: &Closed, book: &mut Book, rule: usize, number: u32) -> Res
 {
     let count = count_of(slip, book, rule)?;
     let floor = count.floor().max(number);
-    let Some(narrowed) = CountWindow::new(floor, count.ceiling()) else {
-        return Err(SheetFault::NoCountLeft(rule));
-    };
+    let narrowed = CountWindow::new(floor, count.ceiling()).ok_or(SheetFault::NoCountLeft(rule))?;
     book.narrow(rule, narrowed);
     Ok(())
 }
@@ -75,9 +73,7 @@ pub fn at_most(slip: &Closed, book: &mut Book, rule: usize, number: u32) -> Resu
 {
     let count = count_of(slip, book, rule)?;
     let ceiling = count.ceiling().min(number);
-    let Some(narrowed) = CountWindow::new(count.floor(), ceiling) else {
-        return Err(SheetFault::NoCountLeft(rule));
-    };
+    let narrowed = CountWindow::new(count.floor(), ceiling).ok_or(SheetFault::NoCountLeft(rule))?;
     book.narrow(rule, narrowed);
     Ok(())
 }
@@ -87,10 +83,8 @@ fn count_of(slip: &Closed, book: &Book, rule: usize) -> Result<CountWindow, Shee
     ensures { MatchResult result (λ count. Agree slip.now.lots slip.now.rules book.now × (rule < length (rules_of book.now)) × (count.floor ≡ (rule_at (rules_of book.now) rule).floor) × (count.ceiling ≡ (rule_at (rules_of book.now) rule).ceiling)) (λ e. ((Agree slip.now.lots slip.now.rules book.now → ⊥) × (e ≡ Mismatch)) ⊎ (Agree slip.now.lots slip.now.rules book.now × (length (rules_of book.now) ≤ rule) × (e ≡ NoSuchRule rule))) }
 {
     agree(slip, book)?;
-    match book.rule(rule) {
-        Some(found) => Ok(found.count),
-        None => Err(SheetFault::NoSuchRule(rule)),
-    }
+    let found = book.rule(rule).ok_or(SheetFault::NoSuchRule(rule))?;
+    Ok(found.count)
 }
 
 // Refuses an ask for a day where slip, book and store do not agree, and one for a day above 9,999.

@@ -52,9 +52,7 @@ pub fn add_rule(
     if !lies_within(stretch, slip.lots) {
         return Err(SheetFault::NoSuchStretch);
     }
-    let Some(count) = CountWindow::new(floor, ceiling) else {
-        return Err(SheetFault::NoSuchCount);
-    };
+    let count = CountWindow::new(floor, ceiling).ok_or(SheetFault::NoSuchCount)?;
     if ceiling > GREATEST_CEILING {
         return Err(SheetFault::NoSuchCount);
     }
