@@ -82,7 +82,7 @@ pub fn at_most(slip: &Closed, book: &mut Book, rule: usize, number: u32) -> Resu
 fn count_of(slip: &Closed, book: &Book, rule: usize) -> Result<CountWindow, SheetFault>
     ensures { MatchResult result (λ count. Agree slip.now.lots slip.now.rules book.now × (rule < length (rules_of book.now)) × (count.floor ≡ (rule_at (rules_of book.now) rule).floor) × (count.ceiling ≡ (rule_at (rules_of book.now) rule).ceiling)) (λ e. ((Agree slip.now.lots slip.now.rules book.now → ⊥) × (e ≡ Mismatch)) ⊎ (Agree slip.now.lots slip.now.rules book.now × (length (rules_of book.now) ≤ rule) × (e ≡ NoSuchRule rule))) }
 {
-    agree(slip, book)?;
+    book.agree(slip.lots, slip.rules)?;
     let found = book.rule(rule).ok_or(SheetFault::NoSuchRule(rule))?;
     Ok(found.count)
 }
@@ -103,21 +103,11 @@ fn may_ask<S: WindowStore>(
     Ok(())
 }
 
-// Refuses a slip and a book that differ in lots or in rules.
-fn agree(slip: &Closed, book: &Book) -> Result<(), SheetFault>
-    ensures { MatchResult result (λ _. Agree slip.now.lots slip.now.rules book.now) (λ e. (e ≡ Mismatch) × (Agree slip.now.lots slip.now.rules book.now → ⊥)) }
-{
-    if slip.lots != book.lots() || slip.rules != book.rules() {
-        return Err(SheetFault::Mismatch);
-    }
-    Ok(())
-}
-
-// Refuses also a store with another number of lots.
+// Refuses a slip and a book that differ in lots or in rules, and a store with another number of lots.
 pub fn all_agree<S: WindowStore>(slip: &Closed, book: &Book, store: &S) -> Result<(), SheetFault>
     ensures { MatchResult result (λ _. AllAgree slip.now book.now (S.WindowStore.windows store.now)) (λ e. (e ≡ Mismatch) × (AllAgree slip.now book.now (S.WindowStore.windows store.now) → ⊥)) }
 {
-    agree(slip, book)?;
+    book.agree(slip.lots, slip.rules)?;
     if slip.lots != store.lots() {
         return Err(SheetFault::Mismatch);
     }

@@ -46,9 +46,7 @@ pub fn add_rule(
     ensures { Adds stretch.first stretch.length floor ceiling slip.old book.old result slip.new book.new }
 {
     let number = slip.rules;
-    if slip.lots != book.lots() || number != book.rules() {
-        return Err(SheetFault::Mismatch);
-    }
+    book.agree(slip.lots, number)?;
     if !lies_within(stretch, slip.lots) {
         return Err(SheetFault::NoSuchStretch);
     }
