@@ -1,5 +1,5 @@
 -- What falls with each turn: the widths of the windows, or else the number of rules that are due.
-use Rattle.std.proofs.Common.{◌≡◌, ℕ, zero, suc, ◌+◌, ◌-◌, ◌*◌, ◌<◌, ◌≤◌, Bool, true, false, cond, ◌⊎◌, List, [], ◌∷◌, length, get_or, set, sym, refl, ap, ap₂, inl, inr, arith}
+use Rattle.std.proofs.Common.{◌≡◌, ℕ, zero, suc, ◌+◌, ◌-◌, ◌*◌, ◌<◌, ◌≤◌, Bool, true, false, cond, ◌⊎◌, List, [], ◌∷◌, length, get_or, set, sym, refl, ap, ◌∙◌, ap₂, inl, inr, arith}
 use Rattle.std.specs.List.{AllZip, AllByRecursion}
 use Rattle.std.proofs.lemmas.Bool.{cases_eq, both_ways}
 use Rattle.store.specs.declared.window.Window.{Window}
@@ -43,9 +43,9 @@ flags_cleared (false ∷ bs) zero h e = absurd (both_ways false refl e)
 flags_cleared (b ∷ bs) (suc k) h e = omega (arith, flags_cleared bs k (omega arith) e)
 
 -- Rules become due only where a window moved: then there is less width. Otherwise one rule less is due.
-pub measure_falls : (is ws : List Window) (due was : List Bool) (k : ℕ) → AllZip Narrower is ws → AllByRecursion Sound is → length due ≡ 32 → (ws ≡ is → due ≡ set was k false) → k < length was → get_or was k true ≡ true
+pub measure_falls : (is ws : List Window) (due left was : List Bool) (k : ℕ) → AllZip Narrower is ws → AllByRecursion Sound is → length due ≡ 32 → (ws ≡ is → due ≡ left) → left ≡ set was k false → k < length was → get_or was k true ≡ true
     → widths is * 33 + flags due < widths ws * 33 + flags was
-measure_falls is ws due was k e s long still h t = elim (widths_fall is ws e s) [
+measure_falls is ws due left was k e s long still f h t = elim (widths_fall is ws e s) [
   | inl a ↦ omega (arith, flags_few due)
-  | inr a ↦ omega (arith, flags_cleared was k h t, ap flags (still (sym a)), ap widths a)
+  | inr a ↦ omega (arith, flags_cleared was k h t, ap flags (still (sym a) ∙ f), ap widths a)
 ]

@@ -1,5 +1,5 @@
 -- The turns of the fixpoint: what stays true from one to the next, and what it gives at the end.
-use Rattle.std.proofs.Common.{◌≡◌, ℕ, ◌<◌, ◌≤◌, Bool, true, false, List, length, get_or, set, sym, ◌∙◌, subst, inl, inr, arith}
+use Rattle.std.proofs.Common.{◌≡◌, ℕ, ◌<◌, ◌≤◌, Bool, true, false, List, length, get_or, set, sym, ap, ◌∙◌, subst, inl, inr, arith}
 use Rattle.std.specs.List.{AllByRecursion}
 use Rattle.std.proofs.lemmas.List.Elements.{length_all_zip}
 use Rattle.std.proofs.ByRecursion.{All-from_get_or, All-weaker}
@@ -30,19 +30,19 @@ pub narrowing_starts : (ws : List Window) (rules : List Row) (due : List Bool) �
 narrowing_starts ws rules due sound clean = record { sound = sound; inside = inside_refl ws rules; keeps = λ vs qs firm inside. inside; clean = clean }
 
 -- a rule that was not due, and of which no window moved, is firm still
-pub narrowing_turns : (ws : List Window) (rules : List Row) (is : List Window) (counts : List Row) (due : List Bool) (k : ℕ) (os : List Window) (rows : List Row) (marked : List Bool)
-    → Narrowing ws rules is counts due → Stepped is counts k os rows
-    → ((q : ℕ) → q < length rows → (q ≡ k → ⊥) → get_or marked q true ≡ false → (get_or (set due k false) q true ≡ false) × (stretch (rule_at rows q) is ≡ stretch (rule_at rows q) os))
+pub narrowing_turns : (ws : List Window) (rules : List Row) (is : List Window) (counts : List Row) (due : List Bool) (k : ℕ) (left : List Bool) (os : List Window) (rows : List Row) (marked : List Bool)
+    → Narrowing ws rules is counts due → left ≡ set due k false → Stepped is counts k os rows
+    → ((q : ℕ) → q < length rows → (q ≡ k → ⊥) → get_or marked q true ≡ false → (get_or left q true ≡ false) × (stretch (rule_at rows q) is ≡ stretch (rule_at rows q) os))
     → Narrowing ws rules os rows marked
-narrowing_turns ws rules is counts due k os rows marked n s marks = record {
+narrowing_turns ws rules is counts due k left os rows marked n e s marks = record {
   sound = s.sound;
   inside = inside_trans os is ws rows counts rules s.inside n.inside;
   keeps = λ vs qs firm inside. s.keeps vs qs firm (n.keeps vs qs firm inside);
-  clean = λ q h e. elim (cases_eq q k) [
+  clean = λ q h f. elim (cases_eq q k) [
     | inl same ↦ subst (λ j. FirmRule os (rule_at rows j)) (sym same) s.firm
     | inr other ↦
-        let m = marks q h other e in
-        let was = n.clean q (omega (arith, length_all_zip _ rows counts s.inside.counts)) (sym (get_or-set_other due k q false true other) ∙ m.0) in
+        let m = marks q h other f in
+        let was = n.clean q (omega (arith, length_all_zip _ rows counts s.inside.counts)) (sym (ap (λ fs. get_or fs q true) e ∙ get_or-set_other due k q false true other) ∙ m.0) in
         firm_rule_same is os (rule_at rows q) m.1 (subst (FirmRule is) (sym (s.others q other)) was)
   ];
 }

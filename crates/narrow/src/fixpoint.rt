@@ -1,78 +1,48 @@
 // The fixpoint over all rules: rules are made firm one by one, and looked at again where a window of theirs moved, until every rule is firm.
-ghost use Rattle.std.specs.Prelude.{◌≡◌, ℕ, ◌<◌, ◌≤◌, true, false, length, replicate, ◌≢◌, slice_index_or};
-ghost use Rattle.std.specs.List.{AllByRecursion};
-ghost use Rattle.store.specs.Sound.{Sound};
+ghost use Rattle.std.specs.Prelude.{◌≡◌, ℕ, ◌<◌, false, length, MatchResult, IfOk, ◌≢◌};
 ghost use Rattle.rules.specs.Firm.{FirmRule, GreatestFirm, NoFirm};
 ghost use Rattle.rules.specs.Plans.{stretch};
-ghost use Rattle.sheet.specs.Books.{lots_of, rule_at, rules_of};
+ghost use Rattle.sheet.specs.Books.{lots_of, rule_at};
+ghost use Rattle.narrow.specs.Dues.{is_due};
+ghost use Rattle.narrow.specs.Problems.{windows_of, rules_in};
 ghost use Rattle.narrow.specs.Stepped.{Stepped};
 
-use crate::due::{mark_moved, next_due};
-use crate::one_rule::tighten_rule;
-use sheet::book::Book;
-use store::window::Window;
+use crate::due::Due;
+use crate::fault::Inconsistent;
+use crate::moved::mark_moved;
+use crate::one_rule::tightened;
+use crate::problem::Problem;
 
-// Narrows windows and count windows to the greatest firm ones inside them, and answers true; false where there are none, and then what is left of both means nothing.
-pub fn narrow_all(windows: &mut [Window], book: &mut Book) -> bool
-    requires lots { length windows.old ≡ lots_of book.old }
-    requires few { length windows.old ≤ 256 }
-    requires sound { AllByRecursion Sound windows.old }
-    ensures firm { result ≡ true → GreatestFirm windows.old (rules_of book.old) windows.new (rules_of book.new) }
-    ensures sound { result ≡ true → AllByRecursion Sound windows.new }
-    ensures none { result ≡ false → NoFirm windows.old (rules_of book.old) }
-    ensures lots { lots_of book.new ≡ lots_of book.old }
+// Narrows windows and count windows to the greatest firm ones inside them. Where there are none, what is left of the problem means nothing.
+pub fn narrow_all(problem: &mut Problem) -> Result<(), Inconsistent>
+    ensures narrowed { MatchResult result (λ _. GreatestFirm (windows_of problem.old) (rules_in problem.old) (windows_of problem.new) (rules_in problem.new)) (λ _. NoFirm (windows_of problem.old) (rules_in problem.old)) }
+    ensures lots { lots_of problem.new.book ≡ lots_of problem.old.book }
 {
-    let mut due = all_due();
-    narrow(windows, book, &mut due)
-}
-
-// Every rule is to be looked at.
-fn all_due() -> [bool; 32]
-    ensures { result ≡ replicate 32 true }
-{
-    [true; 32]
+    narrow(problem, Due::all())
 }
 
 // The same where `due` tells which rules are to be looked at: every other rule is firm already.
-pub fn narrow(windows: &mut [Window], book: &mut Book, due: &mut [bool]) -> bool
-    requires lots { length windows.old ≡ lots_of book.old }
-    requires few { length windows.old ≤ 256 }
-    requires sound { AllByRecursion Sound windows.old }
-    requires flags { length due.old ≡ 32 }
-    requires clean { (k : ℕ) → k < length (rules_of book.old) → slice_index_or due.old k true ≡ false → FirmRule windows.old (rule_at (rules_of book.old) k) }
-    ensures firm { result ≡ true → GreatestFirm windows.old (rules_of book.old) windows.new (rules_of book.new) }
-    ensures sound { result ≡ true → AllByRecursion Sound windows.new }
-    ensures none { result ≡ false → NoFirm windows.old (rules_of book.old) }
-    ensures lots { lots_of book.new ≡ lots_of book.old }
+pub fn narrow(problem: &mut Problem, mut due: Due) -> Result<(), Inconsistent>
+    requires clean { (k : ℕ) → k < length (rules_in problem.old) → is_due due k ≡ false → FirmRule (windows_of problem.old) (rule_at (rules_in problem.old) k) }
+    ensures narrowed { MatchResult result (λ _. GreatestFirm (windows_of problem.old) (rules_in problem.old) (windows_of problem.new) (rules_in problem.new)) (λ _. NoFirm (windows_of problem.old) (rules_in problem.old)) }
+    ensures lots { lots_of problem.new.book ≡ lots_of problem.old.book }
 {
-    while let Some(number) = next_due(due, book.rules()) {
-        due[number] = false;
-        if !turn(windows, book, number, due) {
-            return false;
-        }
+    while let Some(number) = due.take_first(problem.book.rules()) {
+        turn(problem, number, &mut due)?;
     }
-    true
+    Ok(())
 }
 
-// Makes one rule firm, and marks the others that have a window which moved thereby; answers false where no choice keeps the rule.
-fn turn(windows: &mut [Window], book: &mut Book, number: usize, due: &mut [bool]) -> bool
-    requires lots { length windows.old ≡ lots_of book.old }
-    requires few { length windows.old ≤ 256 }
-    requires sound { AllByRecursion Sound windows.old }
-    requires there { number < length (rules_of book.old) }
-    requires flags { length due.old ≡ 32 }
-    ensures stepped { result ≡ true → Stepped windows.old (rules_of book.old) number windows.new (rules_of book.new) }
-    ensures still { result ≡ true → windows.old ≡ windows.new → due.new ≡ due.old }
-    ensures clean { result ≡ true → (q : ℕ) → q < length (rules_of book.new) → (q ≢ number) → slice_index_or due.new q true ≡ false → (slice_index_or due.old q true ≡ false) × (stretch (rule_at (rules_of book.new) q) windows.old ≡ stretch (rule_at (rules_of book.new) q) windows.new) }
-    ensures none { result ≡ false → NoFirm windows.old (rules_of book.old) }
-    ensures lots { lots_of book.new ≡ lots_of book.old }
+// Makes one rule firm, and marks the others that have a window which moved thereby.
+fn turn(problem: &mut Problem, number: usize, due: &mut Due) -> Result<(), Inconsistent>
+    requires there { number < length (rules_in problem.old) }
+    ensures stepped { MatchResult result (λ _. Stepped (windows_of problem.old) (rules_in problem.old) number (windows_of problem.new) (rules_in problem.new)) (λ _. NoFirm (windows_of problem.old) (rules_in problem.old)) }
+    ensures still { IfOk result (λ _. windows_of problem.old ≡ windows_of problem.new → due.new ≡ due.old) }
+    ensures clean { IfOk result (λ _. (q : ℕ) → q < length (rules_in problem.new) → (q ≢ number) → is_due due.new q ≡ false → (is_due due.old q ≡ false) × (stretch (rule_at (rules_in problem.new) q) (windows_of problem.old) ≡ stretch (rule_at (rules_in problem.new) q) (windows_of problem.new))) }
+    ensures lots { lots_of problem.new.book ≡ lots_of problem.old.book }
 {
-    let mut room = [Window { low: 0, high: 0 }; 256];
-    let before = &mut room[0..windows.len()];
-    before.copy_from_slice(windows);
-    if !tighten_rule(windows, book, number) {
-        return false;
-    }
-    mark_moved(before, windows, book, number, due);
-    true
+    let tighter = tightened(problem, number)?;
+    mark_moved(problem, &tighter, number, due);
+    *problem = tighter;
+    Ok(())
 }

@@ -1,52 +1,52 @@
 // Making one rule firm: the tightest windows of its stretch, and its tightest count window.
-ghost use Rattle.std.specs.Prelude.{◌≡◌, ℕ, ◌+◌, ◌<◌, ◌≤◌, true, false, ◌⊎◌, List, length, MatchOption};
+ghost use Rattle.std.specs.Prelude.{◌≡◌, ℕ, ◌+◌, ◌<◌, ◌≤◌, ◌⊎◌, List, length, MatchResult};
 ghost use Rattle.std.specs.List.{AllByRecursion};
 ghost use Rattle.store.specs.Sound.{Sound};
 ghost use Rattle.store.specs.Windows.{window_at};
 ghost use Rattle.nvalue.specs.Choices.{Choice, part};
 ghost use Rattle.nvalue.specs.Nvalue.{Counts};
 ghost use Rattle.rules.specs.Firm.{NoFirm};
-ghost use Rattle.sheet.specs.Books.{lots_of, rules_of};
+ghost use Rattle.sheet.specs.Books.{lots_of};
 ghost use Rattle.tight.specs.Tight.{Tightest};
+ghost use Rattle.narrow.specs.Problems.{windows_of, rules_in};
 ghost use Rattle.narrow.specs.Stepped.{Stepped};
 
+use crate::fault::Inconsistent;
+use crate::problem::Problem;
 use nvalue::count_window::CountWindow;
-use sheet::book::Book;
 use sheet::rule::Rule;
 use store::window::Window;
 use tight::tight::tighten;
 
-// Narrows the windows of a rule's stretch to the tightest, and answers its tightest count window; none where no choice keeps the rule.
-fn tighten_stretch(windows: &mut [Window], rule: Rule) -> Option<CountWindow>
+// The problem with one rule made firm: its windows and its count window are the tightest.
+pub(crate) fn tightened(problem: &Problem, number: usize) -> Result<Problem, Inconsistent>
+    requires there { number < length (rules_in problem.now) }
+    ensures { MatchResult result (λ tighter. Stepped (windows_of problem.now) (rules_in problem.now) number (windows_of tighter) (rules_in tighter) × (lots_of tighter.book ≡ lots_of problem.now.book)) (λ _. NoFirm (windows_of problem.now) (rules_in problem.now)) }
+{
+    let Some(rule) = problem.book.rule(number) else {
+        return Err(Inconsistent);
+    };
+    let mut windows = problem.windows;
+    let mut book = problem.book;
+    let count = tighten_stretch(&mut windows[..book.lots()], rule)?;
+    if !book.narrow(number, count) {
+        return Err(Inconsistent);
+    }
+    Ok(Problem { windows, book })
+}
+
+// Narrows the windows of a rule's stretch to the tightest, and answers its tightest count window. Where no choice keeps the rule, the windows stay.
+fn tighten_stretch(windows: &mut [Window], rule: Rule) -> Result<CountWindow, Inconsistent>
     requires within { rule.stretch.first + rule.stretch.length ≤ length windows.old }
     requires few { length windows.old ≤ 256 }
     requires sound { AllByRecursion Sound windows.old }
     ensures outside { (i : ℕ) → (i < rule.stretch.first) ⊎ (rule.stretch.first + rule.stretch.length ≤ i) → window_at windows.new i ≡ window_at windows.old i }
-    ensures tight { MatchOption result ((ds : List ℕ) → Choice (part windows.old rule.stretch.first rule.stretch.length) ds → Counts rule.count.floor rule.count.ceiling ds → ⊥) (λ t. Tightest (part windows.old rule.stretch.first rule.stretch.length) rule.count.floor rule.count.ceiling (part windows.new rule.stretch.first rule.stretch.length) t.floor t.ceiling) }
+    ensures tight { MatchResult result (λ t. Tightest (part windows.old rule.stretch.first rule.stretch.length) rule.count.floor rule.count.ceiling (part windows.new rule.stretch.first rule.stretch.length) t.floor t.ceiling) (λ _. ((ds : List ℕ) → Choice (part windows.old rule.stretch.first rule.stretch.length) ds → Counts rule.count.floor rule.count.ceiling ds → ⊥) × (windows.new ≡ windows.old)) }
 {
     let first = rule.stretch.first;
     let end = first + rule.stretch.length;
-    let Ok(answer) = tighten(&mut windows[first..end], rule.count) else {
-        return None;
-    };
-    answer
-}
-
-// Makes the rule with a number firm, and answers true; false where no choice keeps it.
-pub(crate) fn tighten_rule(windows: &mut [Window], book: &mut Book, number: usize) -> bool
-    requires lots { length windows.old ≡ lots_of book.old }
-    requires few { length windows.old ≤ 256 }
-    requires sound { AllByRecursion Sound windows.old }
-    requires there { number < length (rules_of book.old) }
-    ensures stepped { result ≡ true → Stepped windows.old (rules_of book.old) number windows.new (rules_of book.new) }
-    ensures none { result ≡ false → NoFirm windows.old (rules_of book.old) }
-    ensures lots { lots_of book.new ≡ lots_of book.old }
-{
-    let Some(rule) = book.rule(number) else {
-        return false;
-    };
-    let Some(count) = tighten_stretch(windows, rule) else {
-        return false;
-    };
-    book.narrow(number, count)
+    match tighten(&mut windows[first..end], rule.count) {
+        Ok(Some(count)) => Ok(count),
+        _ => Err(Inconsistent),
+    }
 }

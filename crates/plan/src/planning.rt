@@ -1,14 +1,13 @@
 // Plan: the earliest plan of a sheet.
 ghost use Rattle.std.specs.Prelude.{◌≡◌, ℕ, ◌<◌, ◌≤◌, length, slice_index};
-ghost use Rattle.std.specs.List.{AllByRecursion};
-ghost use Rattle.store.specs.Sound.{Sound};
 ghost use Rattle.page.specs.Cleared.{Cleared};
-ghost use Rattle.sheet.specs.Books.{lots_of};
 ghost use Rattle.sheet.specs.declared.slip.Closed.{Closed};
+ghost use Rattle.narrow.specs.Problems.{windows_of};
 ghost use Rattle.plan.specs.Planned.{NoPlanExactly, Planned};
 ghost use Rattle.plan.specs.Ready.{Ready};
 
-use crate::ready::take_windows;
+use crate::ready::take_problem;
+use narrow::problem::Problem;
 use nvalue::count::different_days;
 use page::guard::{Page, WORDS};
 use search::groups::earliest_plan;
@@ -16,7 +15,6 @@ use sheet::book::Book;
 use sheet::fault::SheetFault;
 use sheet::slip::Closed;
 use store::store::WindowStore;
-use store::window::Window;
 
 // Writes the earliest plan into the first answer words, one word a lot, and answers how many different days it has; refuses where there is no plan.
 pub fn plan<S: WindowStore>(
@@ -49,27 +47,21 @@ fn plan_on<S: WindowStore>(
     ensures zero { (k : ℕ) → k < length page.new → slice_index page.new k ≡ 0 }
 {
     let page = Page { words: page };
-    let mut windows = [Window { low: 0, high: 0 }; 256];
-    let lots = take_windows(slip, store, book, page.words, &mut windows)?;
-    plan_copied(&windows[0..lots], book, answer)
+    let problem = take_problem(slip, store, book, page.words)?;
+    plan_problem(&problem, answer)
 }
 
 // The same where every check but that of the answer words has passed.
-fn plan_copied(windows: &[Window], book: &Book, answer: &mut [u32]) -> Result<usize, SheetFault>
-    requires lots { length windows.now ≡ lots_of book.now }
-    requires few { length windows.now ≤ 256 }
-    requires sound { AllByRecursion Sound windows.now }
-    ensures { (work : ℕ) (slip : Closed) → Ready work slip book.now windows.now → Planned work slip windows.now book.now answer.old result answer.new }
+fn plan_problem(problem: &Problem, answer: &mut [u32]) -> Result<usize, SheetFault>
+    ensures { (work : ℕ) (slip : Closed) → Ready work slip problem.now.book (windows_of problem.now) → Planned work slip (windows_of problem.now) problem.now.book answer.old result answer.new }
 {
-    let lots = windows.len();
+    let lots = problem.windows().len();
     if answer.len() < lots {
         return Err(SheetFault::ShortAnswer);
     }
     let mut space = [0; 256];
-    let days = &mut space[0..lots];
-    if !earliest_plan(windows, book, days) {
-        return Err(SheetFault::NoPlan);
-    }
-    answer[0..lots].copy_from_slice(days);
+    let days = &mut space[..lots];
+    earliest_plan(problem, days)?;
+    answer[..lots].copy_from_slice(days);
     Ok(different_days(days))
 }

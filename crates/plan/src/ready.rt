@@ -1,8 +1,10 @@
 // What settle and plan check before anything else; the windows are copied on the way.
-ghost use Rattle.std.specs.Prelude.{◌≡◌, ℕ, ◌*◌, ◌<◌, ◌≤◌, length, take, MatchResult};
+ghost use Rattle.std.specs.Prelude.{◌≡◌, ℕ, ◌*◌, ◌≤◌, length, take, MatchResult};
 ghost use Rattle.store.specs.Pairs.{paired};
+ghost use Rattle.narrow.specs.Problems.{windows_of};
 ghost use Rattle.plan.specs.Ready.{Ready, Unready};
 
+use narrow::problem::Problem;
 use page::windows::{copy_windows, first_faulty, window_in};
 use sheet::asks::all_agree;
 use sheet::book::Book;
@@ -13,17 +15,15 @@ use store::window::Window;
 
 const LOTS: usize = 256;
 
-// Makes every check of these but that of the working words, copies the windows, and answers how many there are.
-pub fn take_windows<S: WindowStore>(
+// Makes every check of these but that of the working words, and copies windows and rules.
+pub fn take_problem<S: WindowStore>(
     slip: &Closed,
     store: &S,
     book: &Book,
     page: &mut [u32],
-    windows: &mut [Window],
-) -> Result<usize, SheetFault>
-    requires page { length page.old ≡ 4096 }
-    requires windows { length windows.old ≡ 256 }
-    ensures { (work : ℕ) → 4096 ≤ work → MatchResult result (λ lots. Ready work slip.now book.now (S.WindowStore.windows store.now) × (lots ≡ length (S.WindowStore.windows store.now)) × (take lots windows.new ≡ S.WindowStore.windows store.now)) (Unready work slip.now book.now (S.WindowStore.windows store.now)) }
+) -> Result<Problem, SheetFault>
+    requires { length page.old ≡ 4096 }
+    ensures { (work : ℕ) → 4096 ≤ work → MatchResult result (λ problem. Ready work slip.now book.now (S.WindowStore.windows store.now) × (windows_of problem ≡ S.WindowStore.windows store.now) × (problem.book ≡ book.now)) (Unready work slip.now book.now (S.WindowStore.windows store.now)) }
 {
     let lots = store.lots();
     if lots > LOTS {
@@ -34,17 +34,18 @@ pub fn take_windows<S: WindowStore>(
     if let Some(lot) = first_faulty(page, lots) {
         return Err(SheetFault::FaultyWindow(lot));
     }
-    copy_page(page, lots, windows);
-    Ok(lots)
+    let mut room = [Window { low: 0, high: 0 }; LOTS];
+    let windows = &mut room[..lots];
+    copy_page(page, windows);
+    Ok(Problem::new(windows, *book))
 }
 
-// The windows on a page, as windows.
-fn copy_page(page: &[u32], lots: usize, windows: &mut [Window])
-    requires within { 2 * lots ≤ length page.now }
-    requires room { lots ≤ length windows.old }
-    ensures { take lots windows.new ≡ take lots (paired page.now) }
+// The first windows on a page, as windows.
+fn copy_page(page: &[u32], windows: &mut [Window])
+    requires { 2 * length windows.old ≤ length page.now }
+    ensures { windows.new ≡ take (length windows.old) (paired page.now) }
 {
-    for lot in 0..lots {
-        windows[lot] = window_in(page, lot);
+    for (lot, window) in windows.iter_mut().enumerate() {
+        *window = window_in(page, lot);
     }
 }

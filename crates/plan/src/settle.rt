@@ -5,13 +5,14 @@ ghost use Rattle.store.specs.Sound.{Sound};
 ghost use Rattle.store.specs.Windows.{window_at};
 ghost use Rattle.rules.specs.Firm.{Narrower};
 ghost use Rattle.page.specs.Cleared.{Cleared};
-ghost use Rattle.sheet.specs.Books.{lots_of};
 ghost use Rattle.sheet.specs.declared.slip.Closed.{Closed};
+ghost use Rattle.narrow.specs.Problems.{windows_of};
 ghost use Rattle.plan.specs.Ready.{Ready};
 ghost use Rattle.plan.specs.Settles.{NoneExactly, Settles};
 
-use crate::ready::take_windows;
+use crate::ready::take_problem;
 use narrow::fixpoint::narrow_all;
+use narrow::problem::Problem;
 use page::guard::{Page, WORDS};
 use sheet::book::Book;
 use sheet::fault::SheetFault;
@@ -52,31 +53,25 @@ fn settle_on<S: WindowStore>(
     ensures zero { (k : ℕ) → k < length page.new → slice_index page.new k ≡ 0 }
 {
     let page = Page { words: page };
-    let mut windows = [Window { low: 0, high: 0 }; 256];
-    let lots = take_windows(slip, store, book, page.words, &mut windows)?;
-    settle_copied(store, book, &mut windows[0..lots])
+    let problem = take_problem(slip, store, book, page.words)?;
+    settle_problem(store, book, problem)
 }
 
-// The same where every check has passed, on a copy of the store's windows.
-fn settle_copied<S: WindowStore>(
+// The same where every check has passed, on a copy of windows and rules.
+fn settle_problem<S: WindowStore>(
     store: &mut S,
     book: &mut Book,
-    windows: &mut [Window],
+    mut problem: Problem,
 ) -> Result<(), SheetFault>
-    requires copied { windows.old ≡ S.WindowStore.windows store.old }
-    requires lots { length windows.old ≡ lots_of book.old }
-    requires few { length windows.old ≤ 256 }
-    requires sound { AllByRecursion Sound windows.old }
+    requires windows { windows_of problem ≡ S.WindowStore.windows store.old }
+    requires rules { problem.book ≡ book.old }
     ensures settles { (work : ℕ) (slip : Closed) → Ready work slip book.old (S.WindowStore.windows store.old) → Settles work slip (S.WindowStore.windows store.old) book.old result (S.WindowStore.windows store.new) book.new }
     ensures still { S.WindowStore.windows store.new ≡ S.WindowStore.windows store.old → store.new ≡ store.old }
     ensures framed { S.WindowStore.frame store.new ≡ S.WindowStore.frame store.old }
 {
-    let mut narrowed = *book;
-    if !narrow_all(windows, &mut narrowed) {
-        return Err(SheetFault::NoFirmWindows);
-    }
-    put_windows(store, windows);
-    *book = narrowed;
+    narrow_all(&mut problem)?;
+    put_windows(store, problem.windows());
+    *book = problem.book;
     Ok(())
 }
 
@@ -88,8 +83,8 @@ fn put_windows<S: WindowStore>(store: &mut S, windows: &[Window])
     ensures still { windows.now ≡ S.WindowStore.windows store.old → store.new ≡ store.old }
     ensures framed { S.WindowStore.frame store.new ≡ S.WindowStore.frame store.old }
 {
-    for lot in 0..windows.len() {
-        put_window(store, lot, windows[lot]);
+    for (lot, window) in windows.iter().enumerate() {
+        put_window(store, lot, *window);
     }
 }
 

@@ -1,26 +1,27 @@
 -- The rules of a book, and what stays of a rule where the window of one lot changes.
-use Rattle.std.proofs.Common.{◌≡◌, ℕ, zero, suc, ◌+◌, ◌<◌, ◌≤◌, List, [], ◌∷◌, length, get_or, take, set, sym, refl, ap, ◌∙◌, subst, inl, inr, arith}
+use Rattle.std.proofs.Common.{◌≡◌, ℕ, zero, suc, ◌+◌, ◌<◌, ◌≤◌, false, List, [], ◌∷◌, length, take, set, sym, refl, ap, subst, inl, inr, arith}
 use Rattle.std.specs.List.{AllByRecursion}
-use Rattle.std.proofs.ByRecursion.{All-from_get_or}
-use Rattle.std.proofs.lemmas.List.{ext_get_or, get_or-map, length-map, take-set-le, drop-set-lt}
+use Rattle.std.proofs.ByRecursion.{All-from_get_or, All-get_or}
+use Rattle.std.proofs.lemmas.List.{length-take-le, take-set-le, drop-set-lt}
 use Rattle.std.proofs.lemmas.Bool.{cases_lt}
 use Rattle.store.specs.declared.window.Window.{Window}
-use Rattle.store.specs.Windows.{window, window_at}
+use Rattle.store.specs.Windows.{window_at}
 use Rattle.nvalue.specs.Choices.{part}
 use Rattle.rules.specs.declared.row.Row.{Row}
 use Rattle.rules.specs.Firm.{FirmRule, Used, Counted}
-use Rattle.rules.specs.Plans.{stretch, lows}
+use Rattle.rules.specs.Plans.{stretch}
 use Rattle.sheet.specs.declared.book.Book.{Book}
 use Rattle.sheet.specs.Books.{rules_of, lots_of, row, rule_at}
-use Rattle.sheet.specs.Fits.{Fits}
-use Rattle.sheet.proofs.Books.{rules_at, rules_length}
+use Rattle.narrow.proofs.Fitted.{rule_fits}
+use Rattle.narrow.specs.declared.due.Due.{Due}
+use Rattle.narrow.specs.declared.problem.Problem.{Problem}
+use Rattle.narrow.specs.Dues.{is_due}
+use Rattle.narrow.specs.Problems.{windows_of}
 use Rattle.search.specs.Search.{Over}
 
--- every rule of a book fits its lots
-pub rule_fits : (book : Book) (k : ℕ) → k < length (rules_of book) → Fits (lots_of book) (rule_at (rules_of book) k)
-rule_fits book k h =
-    let b : k < book.used = omega (arith, rules_length book) in
-    subst (Fits (lots_of book)) (sym (rules_at book k b)) (book.kept k (row 0 0 0 0) b)
+-- a problem has as many windows as its book has lots
+pub problem_lots : (p : Problem) → length (windows_of p) ≡ lots_of p.book
+problem_lots p = length-take-le (lots_of p.book) p.windows (omega (arith, p.few, p.room))
 
 -- so every stretch has a lot, and ends with the lots at the latest
 pub rules_some : (book : Book) → AllByRecursion (λ r. 1 ≤ r.length) (rules_of book)
@@ -28,12 +29,6 @@ rules_some book = All-from_get_or (λ r. 1 ≤ r.length) (rules_of book) (row 0 
 
 pub rules_end : (book : Book) (n : ℕ) → n ≡ lots_of book → AllByRecursion (λ r. r.first + r.length ≤ n) (rules_of book)
 rules_end book n e = All-from_get_or (λ r. r.first + r.length ≤ n) (rules_of book) (row 0 0 0 0) (λ k h. omega (arith, (rule_fits book k h).1))
-
--- days that are written lot by lot
-pub lows_written : (ws : List Window) (days : List ℕ) → length days ≡ length ws → ((k : ℕ) → k < length ws → get_or days k 0 ≡ (window_at ws k).low) → days ≡ lows ws
-lows_written ws days n e =
-    ext_get_or 0 days (lows ws) (n ∙ sym (length-map ws (λ w. w.low)))
-    (λ i h. e i (omega arith) ∙ sym (get_or-map (λ w. w.low) ws i (window 0 0) 0 (omega arith)))
 
 -- a stretch does not see a lot before it or after it
 part_set_after : {X : Type 0} (xs : List X) (a n i : ℕ) (x : X) → a + n ≤ i → part (set xs i x) a n ≡ part xs a n
@@ -59,3 +54,10 @@ firm_other ws lot w r out f =
       floor = subst (λ s. Counted s r.floor) e f.floor;
       ceiling = subst (λ s. Counted s r.ceiling) e f.ceiling;
     }
+
+-- so rules are firm that are not due, where those over the lot are
+pub firm_others : (ws us : List Window) (rules ps : List Row) (lot : ℕ) (w : Window) (due : Due) → us ≡ set ws lot w → ps ≡ rules → AllByRecursion (FirmRule ws) rules
+    → ((k : ℕ) → k < length ps → is_due due k ≡ false → Over (rule_at ps k) lot → ⊥) → (k : ℕ) → k < length ps → is_due due k ≡ false → FirmRule us (rule_at ps k)
+firm_others ws us rules ps lot w due e same firm others k h clean =
+    let was : FirmRule ws (rule_at ps k) = All-get_or (FirmRule ws) ps k (row 0 0 0 0) h (subst (AllByRecursion (FirmRule ws)) (sym same) firm) in
+    subst (λ vs. FirmRule vs (rule_at ps k)) (sym e) (firm_other ws lot w (rule_at ps k) (others k h clean) was)

@@ -1,8 +1,7 @@
 -- Borders that no stretch goes across, and the plans of groups joined there.
-use Rattle.std.proofs.Common.{◌≡◌, ℕ, zero, suc, ◌+◌, ◌-◌, ◌<◌, ◌≤◌, true, ◌⊎◌, List, [], ◌∷◌, ◌++◌, length, get_or, drop, replicate, sym, refl, ap, ◌∙◌, subst, inl, inr, arith}
+use Rattle.std.proofs.Common.{◌≡◌, ℕ, ◌+◌, ◌-◌, ◌≤◌, List, [], ◌∷◌, ◌++◌, length, drop, sym, refl, ap, ◌∙◌, subst, inl, arith}
 use Rattle.std.specs.List.{AllByRecursion}
 use Rattle.std.proofs.lemmas.List.{take-append-drop, drop-drop, drop_all}
-use Rattle.std.proofs.lemmas.Bool.{cases_lt}
 use Rattle.store.specs.declared.window.Window.{Window}
 use Rattle.nvalue.specs.Choices.{part}
 use Rattle.rules.specs.declared.row.Row.{Row}
@@ -10,27 +9,7 @@ use Rattle.rules.specs.Cuts.{Cut, within}
 use Rattle.rules.specs.Plans.{Earliest}
 use Rattle.rules.proofs.Cuts.{earliest_join, earliest_none, within_all}
 
--- the stretch of a rule does not go across the border before the lot p
-abbrev pub Clear : ℕ → Row → Type 0
-Clear p r = (r.first + r.length ≤ p) ⊎ (p ≤ r.first)
-
-pub clear_not : (p : ℕ) (r : Row) → ((r.first < p) × (p < r.first + r.length) → ⊥) → Clear p r
-clear_not p r out =
-    elim (cases_lt r.first p) [
-      | inr h ↦ inr h
-      | inl h ↦ elim (cases_lt p (r.first + r.length)) [ inl l ↦ absurd (out (h, l)) | inr l ↦ inl l ]
-    ]
-
-pub not_clear : (p : ℕ) (r : Row) → (r.first < p) × (p < r.first + r.length) → Clear p r → ⊥
-not_clear p r a (inl h) = omega arith
-not_clear p r a (inr h) = omega arith
-
--- none goes across the border before the first lot
-pub cut_zero : (rules : List Row) (p : ℕ) → p ≤ 0 → Cut p rules
-cut_zero [] p h = tt
-cut_zero (r ∷ rules) p h = (inr (omega arith), cut_zero rules p h)
-
--- nor across the one after the last
+-- none goes across the border after the last lot
 pub cut_end : (rules : List Row) (n : ℕ) → AllByRecursion (λ r. r.first + r.length ≤ n) rules → Cut n rules
 cut_end [] n a = tt
 cut_end (r ∷ rules) n (h, a) = (inl h, cut_end rules n a)
@@ -57,12 +36,3 @@ pub earliest_all : (ws : List Window) (rules : List Row) (ds : List ℕ) (p : �
 earliest_all ws rules ds p z a e =
     let s : p ≡ 0 = omega arith in
     subst (λ rs. Earliest ws rs ds) (within_all rules (length ws) a) (subst (λ k. Earliest (drop k ws) (within k (length ws) rules) (drop k ds)) s e)
-
-all_true : (n k : ℕ) → get_or (replicate n true) k true ≡ true
-all_true zero k = refl
-all_true (suc n) zero = refl
-all_true (suc n) (suc k) = all_true n k
-
--- flags that are all set
-pub due_all : (k : ℕ) → get_or (replicate 32 true) k true ≡ true
-due_all k = all_true 32 k

@@ -1,5 +1,5 @@
 -- What is left where the first days of a lot have failed: the same plans, and the earliest of them.
-use Rattle.std.proofs.Common.{◌≡◌, ℕ, zero, suc, ◌<◌, ◌≤◌, List, [], ◌∷◌, length, get_or, take, set, refl, ◌∙◌, subst, inl, inr, arith}
+use Rattle.std.proofs.Common.{◌≡◌, ℕ, zero, suc, ◌<◌, ◌≤◌, List, [], ◌∷◌, length, get_or, take, set, Ok, Err, Result, MatchResult, refl, ◌∙◌, subst, inl, inr, arith}
 use Rattle.std.specs.List.{AllZip, AllByRecursion}
 use Rattle.std.proofs.lemmas.List.Elements.{AllZip-get_or, length_all_zip}
 use Rattle.std.proofs.lemmas.List.{get_or-set_same, length-set, set-set, set-get_or}
@@ -28,6 +28,12 @@ same_none ws vs rules qs s none ds p = none ds ((s ds).0 p)
 
 pub same_earliest : (ws vs : List Window) (rules qs : List Row) (ds : List ℕ) → SamePlans ws rules vs qs → Earliest vs qs ds → Earliest ws rules ds
 same_earliest ws vs rules qs ds s e = record { plan = (s ds).1 e.plan; first = λ es p. e.first es ((s es).0 p) }
+
+-- so a search of one answers for the other
+pub same_answer : {E : Type 0} (ws vs : List Window) (rules qs : List Row) (ds : List ℕ) (r : Result (Unit {0}) E) → SamePlans ws rules vs qs → MatchResult r (λ _. Earliest vs qs ds) (λ _. NoPlan vs qs)
+    → MatchResult r (λ _. Earliest ws rules ds) (λ _. NoPlan ws rules)
+same_answer ws vs rules qs ds (Ok done) s e = same_earliest ws vs rules qs ds s e
+same_answer ws vs rules qs ds (Err fault) s none = same_none ws vs rules qs s none
 
 -- days stay a choice where a window changes to one that has the lot's day
 pub choice_rewindow : (ws : List Window) (ds : List ℕ) (i : ℕ) (w : Window) → Choice ws ds → (i < length ws → In w (get_or ds i 0)) → Choice (set ws i w) ds
@@ -118,9 +124,11 @@ each_set (v ∷ ws) zero w n = (n, each_refl Narrower (λ u. (omega arith, omega
 each_set (v ∷ ws) (suc i) w n = ((omega arith, omega arith), each_set ws i w n)
 
 -- a lot goes on to a later day, and all is settled again
-module _ (ws : List Window) (rules : List Row) (lot day : ℕ) (there : lot < length ws) (l : (window_at ws lot).low < day) (h : day ≤ (window_at ws lot).high) (after : (ds : List ℕ) → Plan ws rules ds → day ≤ get_or ds lot 0) where
-  pub raised : (vs : List Window) (qs : List Row) → GreatestFirm (from_day ws lot day) rules vs qs → AllByRecursion Sound vs → Raised ws rules vs qs
-  raised vs qs g s =
+module _ (ws : List Window) (rules : List Row) (lot day : ℕ) (there : lot < length ws) (l : (window_at ws lot).low < day) (h : day ≤ (window_at ws lot).high) (after : (ds : List ℕ) → Plan ws rules ds → day ≤ get_or ds lot 0)
+    (us : List Window) (ps : List Row) (begun : us ≡ from_day ws lot day) (kept : ps ≡ rules) where
+  pub raised : (vs : List Window) (qs : List Row) → GreatestFirm us ps vs qs → AllByRecursion Sound vs → Raised ws rules vs qs
+  raised vs qs firm s =
+      let g = subst (λ xs. GreatestFirm xs rules vs qs) begun (subst (λ rs. GreatestFirm us rs vs qs) kept firm) in
       let near = each_set ws lot (window day (window_at ws lot).high) (omega arith, omega arith) in
       record {
         firm = g.firm;
@@ -130,6 +138,7 @@ module _ (ws : List Window) (rules : List Row) (lot day : ℕ) (there : lot < le
         plans = same_trans ws (from_day ws lot day) vs rules rules qs (same_from ws rules lot there day (omega arith) after) (settled_plan (from_day ws lot day) rules vs qs g);
       }
 
-  pub raised_none : NoFirm (from_day ws lot day) rules → NoPlan ws rules
-  raised_none none =
+  pub raised_none : NoFirm us ps → NoPlan ws rules
+  raised_none none_firm =
+      let none = subst (λ xs. NoFirm xs rules) begun (subst (NoFirm us) kept none_firm) in
       same_none ws (from_day ws lot day) rules rules (same_from ws rules lot there day (omega arith) after) (no_firm_no_plan_lem (from_day ws lot day) rules none)

@@ -1,5 +1,5 @@
 -- What the search keeps while it tries the days of a lot, and why it ends well.
-use Rattle.std.proofs.Common.{◌≡◌, ℕ, ◌<◌, List, length, refl, ◌∙◌, arith}
+use Rattle.std.proofs.Common.{◌≡◌, ℕ, ◌<◌, List, length, arith}
 use Rattle.std.specs.List.{AllZip, AllByRecursion}
 use Rattle.std.proofs.lemmas.List.Elements.{length_all_zip}
 use Rattle.std.proofs.ByRecursion.{All-get_or}
@@ -8,24 +8,22 @@ use Rattle.store.specs.Sound.{Sound}
 use Rattle.store.specs.Windows.{window}
 use Rattle.rules.specs.declared.row.Row.{Row}
 use Rattle.rules.specs.Firm.{Firm, Narrower}
-use Rattle.rules.specs.Plans.{NoPlan, Earliest}
+use Rattle.rules.specs.Plans.{Earliest}
 use Rattle.rules.proofs.Inside.{each_refl, each_trans}
 use Rattle.search.specs.Search.{FirstOpen, Raised, SamePlans, fixed, width}
-use Rattle.search.proofs.Left.{earliest_fixed, same_earliest, same_none, same_refl, same_trans, single_narrower}
+use Rattle.search.proofs.Left.{earliest_fixed, same_earliest, same_refl, same_trans, single_narrower}
 use Rattle.search.proofs.Widths.{width_fixed, width_fixed_open, width_narrower}
 
 -- The windows vs and the rules qs are left of the windows ws and the rules: settled, and with the same plans.
-pub record Trying (ws : List Window) (rules : List Row) (all lot : ℕ) (vs : List Window) (qs : List Row) (left : ℕ) : Type 0 where
-  pub lots : left ≡ all
+pub record Trying (ws : List Window) (rules : List Row) (lot : ℕ) (vs : List Window) (qs : List Row) : Type 0 where
   pub sound : AllByRecursion Sound vs
   pub firm : Firm vs qs
   pub inside : AllZip Narrower vs ws
   pub plans : SamePlans ws rules vs qs
   pub less : width (fixed vs lot) < width ws
 
-pub trying_none : (ws : List Window) (rules : List Row) (lots lot : ℕ) → AllByRecursion Sound ws → Firm ws rules → FirstOpen ws lot → Trying ws rules lots lot ws rules lots
-trying_none ws rules lots lot s f o = record {
-  lots = refl;
+pub trying_none : (ws : List Window) (rules : List Row) (lot : ℕ) → AllByRecursion Sound ws → Firm ws rules → FirstOpen ws lot → Trying ws rules lot ws rules
+trying_none ws rules lot s f o = record {
   sound = s;
   firm = f;
   inside = each_refl Narrower (λ u. (omega arith, omega arith)) ws;
@@ -33,16 +31,15 @@ trying_none ws rules lots lot s f o = record {
   less = width_fixed_open ws lot o.there o.many;
 }
 
-module _ (ws : List Window) (rules : List Row) (lots lot : ℕ) (o : FirstOpen ws lot) (vs : List Window) (qs : List Row) (left : ℕ) (t : Trying ws rules lots lot vs qs left) where
+module _ (ws : List Window) (rules : List Row) (lot : ℕ) (o : FirstOpen ws lot) (vs : List Window) (qs : List Row) (t : Trying ws rules lot vs qs) where
   pub trying_length : length vs ≡ length ws
   trying_length = length_all_zip Narrower vs ws t.inside
 
   -- one more day has failed
-  pub trying_more : (us : List Window) (ps : List Row) (rest : ℕ) → rest ≡ left → Raised vs qs us ps → Trying ws rules lots lot us ps rest
-  trying_more us ps rest e r =
+  pub trying_more : (us : List Window) (ps : List Row) → Raised vs qs us ps → Trying ws rules lot us ps
+  trying_more us ps r =
       let n = length_all_zip Narrower us vs r.inside in
       record {
-        lots = e ∙ t.lots;
         sound = r.sound;
         firm = r.firm;
         inside = each_trans Narrower (λ u v x p q. (omega arith, omega arith)) us vs ws r.inside t.inside;
@@ -57,6 +54,3 @@ module _ (ws : List Window) (rules : List Row) (lots lot : ℕ) (o : FirstOpen w
       let full = All-get_or Sound vs lot (window 0 0) h t.sound in
       let alone = single_narrower vs ws lot t.inside (omega (arith, o.there)) o.before in
       same_earliest ws vs rules qs ds t.plans (earliest_fixed vs qs lot h ds full.0 alone e)
-
-  pub trying_lost : NoPlan vs qs → NoPlan ws rules
-  trying_lost none = same_none ws vs rules qs t.plans none

@@ -1,62 +1,42 @@
-// The earliest plan of a sheet, group by group: lots that no chain of overlapping stretches joins cannot affect each other.
-ghost use Rattle.std.specs.Prelude.{◌≡◌, ℕ, ◌+◌, ◌-◌, ◌<◌, ◌≤◌, true, false, length, drop, Decides, slice_index_or};
-ghost use Rattle.std.specs.List.{AllByRecursion};
-ghost use Rattle.store.specs.Sound.{Sound};
+// The earliest plan of a problem, group by group: lots that no chain of overlapping stretches joins cannot affect each other.
+ghost use Rattle.std.specs.Prelude.{◌≡◌, ◌+◌, ◌-◌, ◌<◌, ◌≤◌, length, drop, Decides, MatchResult};
 ghost use Rattle.nvalue.specs.Choices.{part};
 ghost use Rattle.rules.specs.Cuts.{Cut, within};
 ghost use Rattle.rules.specs.Plans.{Earliest, NoPlan};
-ghost use Rattle.sheet.specs.Books.{rules_of, lots_of};
+ghost use Rattle.sheet.specs.Books.{rules_of};
+ghost use Rattle.narrow.specs.Problems.{windows_of, rules_in};
 
+use crate::fault::Infeasible;
 use crate::hunt::hunt;
 use crate::lows::write_lows;
-use narrow::fixpoint::narrow;
+use narrow::due::Due;
+use narrow::fixpoint::narrow_all;
+use narrow::problem::Problem;
 use nvalue::stretch::Stretch;
 use sheet::book::Book;
-use store::window::Window;
 
-// The earliest plan of the windows that keeps every rule of the book: true, and then `days` has it; or false where there is none.
-pub fn earliest_plan(windows: &[Window], book: &Book, days: &mut [u32]) -> bool
-    requires lots { length windows.now ≡ lots_of book.now }
-    requires few { length windows.now ≤ 256 }
-    requires sound { AllByRecursion Sound windows.now }
-    requires each { length days.old ≡ length windows.now }
-    ensures found { result ≡ true → Earliest windows.now (rules_of book.now) days.new }
-    ensures none { result ≡ false → NoPlan windows.now (rules_of book.now) }
+// Writes the earliest plan of the windows that keeps every rule.
+pub fn earliest_plan(problem: &Problem, days: &mut [u32]) -> Result<(), Infeasible>
+    requires { length days.old ≡ length (windows_of problem.now) }
+    ensures { MatchResult result (λ _. Earliest (windows_of problem.now) (rules_in problem.now) days.new) (λ _. NoPlan (windows_of problem.now) (rules_in problem.now)) }
 {
-    let mut room = [Window { low: 0, high: 0 }; 256];
-    let settled = &mut room[0..windows.len()];
-    settled.copy_from_slice(windows);
-    let mut counts = *book;
-    let mut due = all_due();
-    narrow(settled, &mut counts, &mut due) && plan_groups(settled, &counts, days)
-}
-
-// The flags of rules that are all due.
-fn all_due() -> [bool; 32]
-    ensures flags { length result ≡ 32 }
-    ensures due { (k : ℕ) → slice_index_or result k true ≡ true }
-{
-    [true; 32]
+    let mut settled = *problem;
+    narrow_all(&mut settled)?;
+    plan_groups(&settled, days)
 }
 
 // From the last group to the first, so that an impossible last group is found with no search of those before. What is found stays: no group looks at another.
-fn plan_groups(windows: &[Window], book: &Book, days: &mut [u32]) -> bool
-    requires lots { length windows.now ≡ lots_of book.now }
-    requires few { length windows.now ≤ 256 }
-    requires sound { AllByRecursion Sound windows.now }
-    requires each { length days.old ≡ length windows.now }
-    ensures found { result ≡ true → Earliest windows.now (rules_of book.now) days.new }
-    ensures none { result ≡ false → NoPlan windows.now (rules_of book.now) }
+fn plan_groups(problem: &Problem, days: &mut [u32]) -> Result<(), Infeasible>
+    requires { length days.old ≡ length (windows_of problem.now) }
+    ensures { MatchResult result (λ _. Earliest (windows_of problem.now) (rules_in problem.now) days.new) (λ _. NoPlan (windows_of problem.now) (rules_in problem.now)) }
 {
-    let mut end = windows.len();
+    let mut end = problem.windows().len();
     while end > 0 {
-        let start = group_start(book, end);
-        if !plan_part(windows, book, start, end, days) {
-            return false;
-        }
+        let start = group_start(&problem.book, end);
+        plan_part(problem, start, end, days)?;
         end = start;
     }
-    true
+    Ok(())
 }
 
 // Where the group begins that ends before the lot `end`: at the nearest border before it that no stretch goes across.
@@ -65,25 +45,17 @@ fn group_start(book: &Book, end: usize) -> usize
     ensures before { result < end }
     ensures cut { Cut result (rules_of book.now) }
 {
-    let mut start = end - 1;
-    while start > 0 && !is_cut(book, start) {
-        start -= 1;
-    }
-    start
+    (1..end)
+        .rev()
+        .find(|start| is_cut(book, *start))
+        .unwrap_or(0)
 }
 
 // Does no stretch go across the border before the lot p?
 fn is_cut(book: &Book, p: usize) -> bool
     ensures { Decides result (Cut p (rules_of book.now)) }
 {
-    for number in 0..book.rules() {
-        if let Some(rule) = book.rule(number) {
-            if goes_across(rule.stretch, p) {
-                return false;
-            }
-        }
-    }
-    true
+    book.rows().iter().all(|row| !goes_across(row.stretch(), p))
 }
 
 // Does a stretch have lots on both sides of the border before the lot p?
@@ -94,36 +66,21 @@ fn goes_across(stretch: Stretch, p: usize) -> bool
 }
 
 // The earliest plan of the lots from `start` on and before `end`, by the rules that lie there. The days after them stay.
-fn plan_part(windows: &[Window], book: &Book, start: usize, end: usize, days: &mut [u32]) -> bool
-    requires few { length windows.now ≤ 256 }
-    requires sound { AllByRecursion Sound windows.now }
-    requires each { length days.old ≡ length windows.now }
+fn plan_part(
+    problem: &Problem,
+    start: usize,
+    end: usize,
+    days: &mut [u32],
+) -> Result<(), Infeasible>
+    requires each { length days.old ≡ length (windows_of problem.now) }
     requires ordered { start ≤ end }
-    requires there { end ≤ length windows.now }
-    ensures found { result ≡ true → Earliest (part windows.now start (end - start)) (within start end (rules_of book.now)) (part days.new start (end - start)) }
-    ensures none { result ≡ false → NoPlan (part windows.now start (end - start)) (within start end (rules_of book.now)) }
+    requires there { end ≤ length (windows_of problem.now) }
+    ensures found { MatchResult result (λ _. Earliest (part (windows_of problem.now) start (end - start)) (within start end (rules_in problem.now)) (part days.new start (end - start))) (λ _. NoPlan (part (windows_of problem.now) start (end - start)) (within start end (rules_in problem.now))) }
     ensures rest { drop end days.new ≡ drop end days.old }
 {
-    let rules = book.cut(start, end);
-    plan_group(&windows[start..end], &rules, &mut days[start..end])
-}
-
-// The earliest plan of one group.
-fn plan_group(windows: &[Window], book: &Book, days: &mut [u32]) -> bool
-    requires lots { length windows.now ≡ lots_of book.now }
-    requires few { length windows.now ≤ 256 }
-    requires sound { AllByRecursion Sound windows.now }
-    requires each { length days.old ≡ length windows.now }
-    ensures found { result ≡ true → Earliest windows.now (rules_of book.now) days.new }
-    ensures none { result ≡ false → NoPlan windows.now (rules_of book.now) }
-{
-    let mut room = [Window { low: 0, high: 0 }; 256];
-    let trial = &mut room[0..windows.len()];
-    trial.copy_from_slice(windows);
-    let mut due = all_due();
-    if !hunt(trial, book, &mut due) {
-        return false;
-    }
-    write_lows(trial, days);
-    true
+    let rules = problem.book.cut(start, end);
+    let mut group = Problem::new(&problem.windows()[start..end], rules);
+    hunt(&mut group, Due::all())?;
+    write_lows(group.windows(), &mut days[start..end]);
+    Ok(())
 }

@@ -1,130 +1,117 @@
 // The search for the earliest plan: settle, look whether the first days will do, and else try the days of the first lot that has a choice, the earliest first.
-ghost use Rattle.std.specs.Prelude.{◌≡◌, ℕ, ◌<◌, ◌≤◌, true, false, length, slice_index_or};
-ghost use Rattle.std.specs.List.{AllByRecursion};
-ghost use Rattle.store.specs.Sound.{Sound};
+ghost use Rattle.std.specs.Prelude.{◌≡◌, ℕ, ◌<◌, ◌≤◌, false, length, MatchResult, IfErr};
+ghost use Rattle.store.specs.Windows.{window_at};
 ghost use Rattle.rules.specs.Firm.{Firm, FirmRule};
 ghost use Rattle.rules.specs.Plans.{Earliest, NoPlan, lows};
-ghost use Rattle.sheet.specs.Books.{rules_of, lots_of, rule_at};
-ghost use Rattle.search.specs.Search.{FirstOpen, Raised, fixed};
+ghost use Rattle.sheet.specs.Books.{lots_of, rule_at};
+ghost use Rattle.narrow.specs.Dues.{is_due};
+ghost use Rattle.narrow.specs.Problems.{windows_of, rules_in};
+ghost use Rattle.search.specs.Search.{FirstOpen, Raised, fixed, from_day};
 
 use crate::due::due_over;
+use crate::fault::Infeasible;
 use crate::lows::{first_open, lows_keep};
 use crate::next_day::next_day;
+use narrow::due::Due;
 use narrow::fixpoint::narrow;
-use sheet::book::Book;
+use narrow::problem::Problem;
 use store::window::Window;
 
-// The earliest plan inside these windows: true, and then it is the first day of each window; or false where there is none.
+// Finds the earliest plan inside the windows: then it is the first day of each window that is left. Of the rules those that are not due are firm already.
 #[cycle(hunt_pick_try_days_try_low)]
-pub fn hunt(windows: &mut [Window], book: &Book, due: &mut [bool]) -> bool
-    requires lots { length windows.old ≡ lots_of book.now }
-    requires few { length windows.old ≤ 256 }
-    requires sound { AllByRecursion Sound windows.old }
-    requires flags { length due.old ≡ 32 }
-    requires clean { (k : ℕ) → k < length (rules_of book.now) → slice_index_or due.old k true ≡ false → FirmRule windows.old (rule_at (rules_of book.now) k) }
-    ensures found { result ≡ true → Earliest windows.old (rules_of book.now) (lows windows.new) }
-    ensures none { result ≡ false → NoPlan windows.old (rules_of book.now) }
+pub fn hunt(problem: &mut Problem, due: Due) -> Result<(), Infeasible>
+    requires clean { (k : ℕ) → k < length (rules_in problem.old) → is_due due k ≡ false → FirmRule (windows_of problem.old) (rule_at (rules_in problem.old) k) }
+    ensures { MatchResult result (λ _. Earliest (windows_of problem.old) (rules_in problem.old) (lows (windows_of problem.new))) (λ _. NoPlan (windows_of problem.old) (rules_in problem.old)) }
 {
-    let mut counts = *book;
-    narrow(windows, &mut counts, due) && pick(windows, &mut counts, due)
+    narrow(problem, due)?;
+    pick(problem)
 }
 
 // The same where windows and rules are settled.
 #[cycle(hunt_pick_try_days_try_low)]
-fn pick(windows: &mut [Window], counts: &mut Book, due: &mut [bool]) -> bool
-    requires lots { length windows.old ≡ lots_of counts.old }
-    requires few { length windows.old ≤ 256 }
-    requires sound { AllByRecursion Sound windows.old }
-    requires flags { length due.old ≡ 32 }
-    requires firm { Firm windows.old (rules_of counts.old) }
-    ensures found { result ≡ true → Earliest windows.old (rules_of counts.old) (lows windows.new) }
-    ensures none { result ≡ false → NoPlan windows.old (rules_of counts.old) }
+fn pick(problem: &mut Problem) -> Result<(), Infeasible>
+    requires firm { Firm (windows_of problem.old) (rules_in problem.old) }
+    ensures { MatchResult result (λ _. Earliest (windows_of problem.old) (rules_in problem.old) (lows (windows_of problem.new))) (λ _. NoPlan (windows_of problem.old) (rules_in problem.old)) }
 {
-    if lows_keep(windows, counts) {
-        return true;
+    if lows_keep(problem) {
+        return Ok(());
     }
-    match first_open(windows) {
-        Some(lot) => try_days(windows, counts, due, lot),
-        None => false,
+    match first_open(problem.windows()) {
+        Some(lot) => try_days(problem, lot),
+        None => Err(Infeasible),
     }
 }
 
 // The same where a lot has a choice and none before it has.
 #[cycle(hunt_pick_try_days_try_low)]
-fn try_days(windows: &mut [Window], counts: &mut Book, due: &mut [bool], lot: usize) -> bool
-    requires lots { length windows.old ≡ lots_of counts.old }
-    requires few { length windows.old ≤ 256 }
-    requires sound { AllByRecursion Sound windows.old }
-    requires flags { length due.old ≡ 32 }
-    requires firm { Firm windows.old (rules_of counts.old) }
-    requires first { FirstOpen windows.old lot }
-    ensures found { result ≡ true → Earliest windows.old (rules_of counts.old) (lows windows.new) }
-    ensures none { result ≡ false → NoPlan windows.old (rules_of counts.old) }
+fn try_days(problem: &mut Problem, lot: usize) -> Result<(), Infeasible>
+    requires firm { Firm (windows_of problem.old) (rules_in problem.old) }
+    requires first { FirstOpen (windows_of problem.old) lot }
+    ensures { MatchResult result (λ _. Earliest (windows_of problem.old) (rules_in problem.old) (lows (windows_of problem.new))) (λ _. NoPlan (windows_of problem.old) (rules_in problem.old)) }
 {
-    while !try_low(windows, counts, due, lot) {
-        if !go_on(windows, counts, due, lot) {
-            return false;
-        }
+    while let Err(Infeasible) = try_low(problem, lot) {
+        go_on(problem, lot)?;
     }
-    true
+    Ok(())
 }
 
-// Fixes the lot at its first day: true, and then the first days are the earliest plan with that day; or false, and the windows stay.
+// Fixes the lot at its first day: then the first days of all windows are the earliest plan with that day. Where there is none, the problem stays.
 #[cycle(hunt_pick_try_days_try_low)]
-fn try_low(windows: &mut [Window], counts: &Book, due: &mut [bool], lot: usize) -> bool
-    requires lots { length windows.old ≡ lots_of counts.now }
-    requires few { length windows.old ≤ 256 }
-    requires sound { AllByRecursion Sound windows.old }
-    requires flags { length due.old ≡ 32 }
-    requires firm { Firm windows.old (rules_of counts.now) }
-    requires there { lot < length windows.old }
-    ensures found { result ≡ true → Earliest (fixed windows.old lot) (rules_of counts.now) (lows windows.new) }
-    ensures none { result ≡ false → NoPlan (fixed windows.old lot) (rules_of counts.now) }
-    ensures stay { result ≡ false → windows.new ≡ windows.old }
+fn try_low(problem: &mut Problem, lot: usize) -> Result<(), Infeasible>
+    requires firm { Firm (windows_of problem.old) (rules_in problem.old) }
+    requires there { lot < length (windows_of problem.old) }
+    ensures found { MatchResult result (λ _. Earliest (fixed (windows_of problem.old) lot) (rules_in problem.old) (lows (windows_of problem.new))) (λ _. NoPlan (fixed (windows_of problem.old) lot) (rules_in problem.old)) }
+    ensures stay { IfErr result (λ _. problem.new ≡ problem.old) }
 {
-    let mut room = [Window { low: 0, high: 0 }; 256];
-    let trial = &mut room[0..windows.len()];
-    copy_fixed(windows, lot, trial);
-    due_over(counts, lot, due);
-    if !hunt(trial, counts, due) {
-        return false;
-    }
-    windows.copy_from_slice(trial);
-    true
+    let mut trial = *problem;
+    fix(&mut trial, lot);
+    let due = due_over(&trial, lot);
+    hunt(&mut trial, due)?;
+    *problem = trial;
+    Ok(())
 }
 
-// Copies the windows, with the lot fixed at its first day.
-fn copy_fixed(windows: &[Window], lot: usize, trial: &mut [Window])
-    requires each { length trial.old ≡ length windows.now }
-    requires there { lot < length windows.now }
-    ensures { trial.new ≡ fixed windows.now lot }
+// Fixes a lot at its first day.
+fn fix(problem: &mut Problem, lot: usize)
+    requires there { lot < length (windows_of problem.old) }
+    ensures windows { windows_of problem.new ≡ fixed (windows_of problem.old) lot }
+    ensures book { problem.new.book ≡ problem.old.book }
 {
-    trial.copy_from_slice(windows);
-    let day = windows[lot].low;
-    trial[lot] = Window {
-        low: day,
-        high: day,
-    };
+    let day = problem.windows()[lot].low;
+    problem.put(
+        lot,
+        Window {
+            low: day,
+            high: day,
+        },
+    );
 }
 
-// Goes past the first day of a lot, which has failed, and settles again; false where no plan is left.
-fn go_on(windows: &mut [Window], counts: &mut Book, due: &mut [bool], lot: usize) -> bool
-    requires lots { length windows.old ≡ lots_of counts.old }
-    requires few { length windows.old ≤ 256 }
-    requires sound { AllByRecursion Sound windows.old }
-    requires flags { length due.old ≡ 32 }
-    requires firm { Firm windows.old (rules_of counts.old) }
-    requires there { lot < length windows.old }
-    requires failed { NoPlan (fixed windows.old lot) (rules_of counts.old) }
-    ensures lots { lots_of counts.new ≡ lots_of counts.old }
-    ensures raised { result ≡ true → Raised windows.old (rules_of counts.old) windows.new (rules_of counts.new) }
-    ensures none { result ≡ false → NoPlan windows.old (rules_of counts.old) }
+// Goes past the first day of a lot, which has failed, and settles again.
+fn go_on(problem: &mut Problem, lot: usize) -> Result<(), Infeasible>
+    requires firm { Firm (windows_of problem.old) (rules_in problem.old) }
+    requires there { lot < length (windows_of problem.old) }
+    requires failed { NoPlan (fixed (windows_of problem.old) lot) (rules_in problem.old) }
+    ensures raised { MatchResult result (λ _. Raised (windows_of problem.old) (rules_in problem.old) (windows_of problem.new) (rules_in problem.new)) (λ _. NoPlan (windows_of problem.old) (rules_in problem.old)) }
+    ensures lots { lots_of problem.new.book ≡ lots_of problem.old.book }
 {
-    let next = next_day(windows, lot);
-    if next > windows[lot].high {
-        return false;
+    let day = next_day(problem, lot);
+    if day > problem.windows()[lot].high {
+        return Err(Infeasible);
     }
-    windows[lot].low = next;
-    due_over(counts, lot, due);
-    narrow(windows, counts, due)
+    begin(problem, lot, day);
+    let due = due_over(problem, lot);
+    narrow(problem, due)?;
+    Ok(())
+}
+
+// Gives a lot a later first day.
+fn begin(problem: &mut Problem, lot: usize, day: u32)
+    requires there { lot < length (windows_of problem.old) }
+    requires inside { day ≤ (window_at (windows_of problem.old) lot).high }
+    ensures windows { windows_of problem.new ≡ from_day (windows_of problem.old) lot day }
+    ensures book { problem.new.book ≡ problem.old.book }
+{
+    let high = problem.windows()[lot].high;
+    problem.put(lot, Window { low: day, high });
 }

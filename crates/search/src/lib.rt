@@ -1,7 +1,8 @@
-// The earliest plan of windows and a book of rules.
+// The earliest plan of a problem.
 #![tactic(auto)]
 
 mod due;
+pub mod fault;
 pub mod groups;
 pub mod hunt;
 mod lows;

@@ -1,4 +1,3 @@
 pub mod Books
 pub mod Cutting
 pub mod Drafts
-pub mod Told

@@ -94,10 +94,7 @@ fn store_number(fault: StoreFault) -> u32
 pub fn about_lot(lot: usize, answer: Result<(), StoreFault>) -> Result<(), StoreRefusal>
     ensures { result ≡ at_lot lot answer }
 {
-    match answer {
-        Ok(()) => Ok(()),
-        Err(fault) => Err(StoreRefusal { lot, fault }),
-    }
+    answer.map_err(|fault| StoreRefusal { lot, fault })
 }
 
 impl From<StoreRefusal> for SheetFault {

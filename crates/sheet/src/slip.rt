@@ -11,6 +11,8 @@ pub enum SlipState {
     Asking,
 }
 
+// Two types rather than one that is generic in its state: specifications cannot name a type alias, and a trait with two types for the states would be longer than the four methods of a line that both have.
+
 // With a draft slip rules are added.
 pub struct Draft {
     pub(crate) lots: usize,

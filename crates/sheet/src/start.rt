@@ -46,15 +46,11 @@ pub fn add_rule(
     ensures { Adds stretch.first stretch.length floor ceiling slip.old book.old result slip.new book.new }
 {
     let number = slip.rules;
-    if slip.lots != book.lots() || number != book.rules() {
-        return Err(SheetFault::Mismatch);
-    }
+    book.agree(slip.lots, number)?;
     if !lies_within(stretch, slip.lots) {
         return Err(SheetFault::NoSuchStretch);
     }
-    let Some(count) = CountWindow::new(floor, ceiling) else {
-        return Err(SheetFault::NoSuchCount);
-    };
+    let count = CountWindow::new(floor, ceiling).ok_or(SheetFault::NoSuchCount)?;
     if ceiling > GREATEST_CEILING {
         return Err(SheetFault::NoSuchCount);
     }
@@ -74,11 +70,7 @@ pub fn add_rows(slip: &mut Draft, book: &mut Book, rows: &[Row]) -> Result<(), S
     let number = slip.rules;
     let old = *book;
     for row in rows {
-        let stretch = Stretch {
-            first: row.first,
-            length: row.length,
-        };
-        if let Err(fault) = add_rule(slip, book, stretch, row.floor, row.ceiling) {
+        if let Err(fault) = add_rule(slip, book, row.stretch(), row.floor, row.ceiling) {
             slip.rules = number;
             *book = old;
             return Err(fault);

@@ -13,35 +13,14 @@ impl Book {
         ensures lots { lots_of result ≡ b - a }
     {
         let mut part = Book::empty(b.saturating_sub(a));
-        self.copy_rules(a, b, &mut part);
+        for row in self.rows() {
+            if a <= row.first && row.first + row.length <= b {
+                part.add(Row {
+                    first: row.first - a,
+                    ..*row
+                });
+            }
+        }
         part
-    }
-
-    fn copy_rules(&self, a: usize, b: usize, part: &mut Book)
-        requires none { rules_of part.old ≡ [] }
-        requires lots { lots_of part.old ≡ b - a }
-        ensures rules { rules_of part.new ≡ within a b (rules_of self.now) }
-        ensures lots { lots_of part.new ≡ b - a }
-    {
-        for number in 0..self.used {
-            self.copy_rule(number, a, b, part);
-        }
-    }
-
-    // Copies a rule where its stretch lies among these lots.
-    fn copy_rule(&self, number: usize, a: usize, b: usize, part: &mut Book)
-        requires there { number < length (rules_of self.now) }
-        requires room { length (rules_of part.old) ≤ number }
-        requires lots { lots_of part.old ≡ b - a }
-        ensures rules { rules_of part.new ≡ rules_of part.old ++ within a b (rule_at (rules_of self.now) number ∷ []) }
-        ensures lots { lots_of part.new ≡ b - a }
-    {
-        let row = self.rows[number];
-        if a <= row.first && row.first + row.length <= b {
-            part.add(Row {
-                first: row.first - a,
-                ..row
-            });
-        }
     }
 }

@@ -1,8 +1,11 @@
 // Reading a book.
-ghost use Rattle.std.specs.Prelude.{◌≡◌, ◌+◌, ◌<◌, ◌≤◌, [], length, MatchOption};
+ghost use Rattle.std.specs.Prelude.{◌≡◌, ◌+◌, ◌<◌, ◌≤◌, [], length, MatchOption, MatchResult};
 ghost use Rattle.sheet.specs.Books.{rules_of, lots_of, rule_at, plain};
+ghost use Rattle.sheet.specs.Drafts.{Agree};
+ghost use Rattle.sheet.specs.declared.fault.SheetFault.TheVariants.{Mismatch};
 
 use super::Book;
+use crate::fault::SheetFault;
 use crate::rule::Rule;
 use nvalue::count_window::CountWindow;
 use rules::row::Row;
@@ -39,6 +42,16 @@ impl Book {
         ensures { result.now ≡ rules_of self.now }
     {
         &self.rows[..self.used]
+    }
+
+    // Refuses a slip for another number of lots, or of rules.
+    pub(crate) fn agree(&self, lots: usize, rules: usize) -> Result<(), SheetFault>
+        ensures { MatchResult result (λ _. Agree lots rules self.now) (λ e. (e ≡ Mismatch) × (Agree lots rules self.now → ⊥)) }
+    {
+        if lots != self.lots || rules != self.used {
+            return Err(SheetFault::Mismatch);
+        }
+        Ok(())
     }
 
     // The rule with a number, from 0 on; absent where there is no such rule.

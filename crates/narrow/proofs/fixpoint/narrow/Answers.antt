@@ -1,38 +1,30 @@
-use Rattle.std.proofs.Common.{true, refl, ◌∙◌, arith}
-use Rattle.std.proofs.lemmas.List.{length-set}
-use Rattle.std.proofs.lemmas.Bool.{both_ways}
-use Rattle.sheet.specs.Books.{rules_of}
+use Rattle.std.proofs.Common.{refl, ap, ◌∙◌, arith, rules}
+use Rattle.narrow.specs.Problems.{rules_in, windows_of}
 use Rattle.narrow.proofs.Fitted.{rules_few, rules_ordered}
 use Rattle.narrow.proofs.Measures.{measure_falls}
 use Rattle.narrow.proofs.Turns.{narrowing_ends, narrowing_starts, narrowing_turns}
 use Rattle.narrow.proofs.fixpoint.narrow.Goals as goal
 
 pub loop-number-init : goal.loop-number-init
-loop-number-init c = (narrowing_starts c.args.windows.now (rules_of c.args.book.now) c.args.due.now c.requires.sound c.requires.clean, refl)
+loop-number-init c = (narrowing_starts (windows_of c.args.problem.now) (rules_in c.args.problem.now) c.args.due.flags c.args.problem.now.sound c.requires.clean, refl)
 
 pub loop-number-smaller : goal.loop-number-smaller
 loop-number-smaller c =
-    let stepped = c.turn.ensures.stepped c.if-not-turn.false in
+    let e = c.in_ok-turn.ensures in
     let found = c.in-Some.ensures in
-    measure_falls c.turn.new.windows c.loop-number.windows c.turn.new.due c.loop-number.due c.in-Some.number stepped.inside.windows stepped.sound
-    (omega (arith, simp length-set at c.turn.auto.due, c.loop-number.auto.due, c.requires.flags)) (c.turn.ensures.still c.if-not-turn.false)
-    (omega (arith, found.0, c.rules.ensures, rules_few c.loop-number.book, c.loop-number.auto.due, c.requires.flags)) found.1
+    let due = c.loop-number.due in
+    measure_falls (windows_of c.turn.new.problem) (windows_of c.loop-number.problem) c.turn.new.due.flags c.take_first.new.self.flags due.flags c.in-Some.number e.stepped.inside.windows e.stepped.sound c.turn.new.due.room
+    (λ same. ap (λ d. d.flags) (e.still same)) found.2 (omega (arith, found.0, c.rules.ensures, rules_few c.loop-number.problem.book, due.room)) found.1
 
 pub loop-number-preserved : goal.loop-number-preserved
 loop-number-preserved c =
-    let stepped = c.turn.ensures.stepped c.if-not-turn.false in (
-      narrowing_turns c.args.windows.now (rules_of c.args.book.now) c.loop-number.windows (rules_of c.loop-number.book) c.loop-number.due c.in-Some.number c.turn.new.windows
-          (rules_of c.turn.new.book) c.turn.new.due c.loop-number.invariant.0 stepped (c.turn.ensures.clean c.if-not-turn.false),
-      c.turn.ensures.lots ∙ c.loop-number.invariant.1,
+    let e = c.in_ok-turn.ensures in (
+      narrowing_turns (windows_of c.args.problem.now) (rules_in c.args.problem.now) (windows_of c.loop-number.problem) (rules_in c.loop-number.problem) c.loop-number.due.flags c.in-Some.number
+          c.take_first.new.self.flags (windows_of c.turn.new.problem) (rules_in c.turn.new.problem) c.turn.new.due.flags c.loop-number.invariant.0 c.in-Some.ensures.2 e.stepped e.clean,
+      e.lots ∙ c.loop-number.invariant.1,
     )
 
-pub returns : goal.returns
-returns c =
-    let none = c.in_default.ensures in
-    record {
-      firm = λ _. narrowing_ends c.args.windows.now (rules_of c.args.book.now) c.loop-number.windows (rules_of c.loop-number.book) c.loop-number.due c.loop-number.invariant.0
-          (rules_ordered c.loop-number.book) (λ q h. none q (omega (arith, c.rules.ensures)));
-      sound = λ _. c.loop-number.invariant.0.sound;
-      none = λ f. absurd (both_ways true f refl);
-      lots = c.loop-number.invariant.1;
-    }
+pub returns-clause-narrowed : goal.returns-clause-narrowed
+returns-clause-narrowed c =
+    narrowing_ends (windows_of c.args.problem.now) (rules_in c.args.problem.now) (windows_of c.loop-number.problem) (rules_in c.loop-number.problem) c.loop-number.due.flags c.loop-number.invariant.0
+    (rules_ordered c.loop-number.problem.book) (search rules)

@@ -7,4 +7,4 @@ use Rattle.plan.proofs.ready.copy_page.Goals as goal
 pub loop-lot-preserved : goal.loop-lot-preserved
 loop-lot-preserved c =
     let n = paired_length c.args.page.now in
-    copy_more c.loop-lot.windows (paired c.args.page.now) c.loop-lot.lot _ (omega (arith, c.requires.room)) (omega (arith, c.requires.within)) c.loop-lot.invariant c.window_in.ensures
+    copy_more c.loop-lot.windows (paired c.args.page.now) c.loop-lot.lot _ (omega arith) (omega (arith, c.requires)) c.loop-lot.invariant c.window_in.ensures

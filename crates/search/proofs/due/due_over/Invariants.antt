@@ -1,7 +1,9 @@
-use Rattle.std.proofs.Common.{◌≡◌, ℕ, ◌<◌, true, false, get_or}
-use Rattle.sheet.specs.Books.{rules_of, rule_at}
+use Rattle.std.proofs.Common.{◌≡◌, ℕ, ◌<◌, false}
+use Rattle.sheet.specs.Books.{rule_at}
+use Rattle.narrow.specs.Dues.{is_due}
+use Rattle.narrow.specs.Problems.{rules_in}
 use Rattle.search.specs.Search.{Over}
 use Rattle.search.proofs.due.due_over.Given as goal
 
 abbrev pub invariant-loop-number : goal.invariant-loop-number
-invariant-loop-number l = (k : ℕ) → k < l.number → get_or l.due k true ≡ false → Over (rule_at (rules_of l.book) k) l.lot → ⊥
+invariant-loop-number l = (k : ℕ) → k < l.number → is_due l.due k ≡ false → Over (rule_at (rules_in l.problem) k) l.lot → ⊥

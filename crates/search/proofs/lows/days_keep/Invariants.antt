@@ -4,5 +4,5 @@ use Rattle.rules.specs.Plans.{Keeps}
 use Rattle.sheet.specs.Books.{rules_of}
 use Rattle.search.proofs.lows.days_keep.Given as goal
 
-abbrev pub invariant-loop-number : goal.invariant-loop-number
-invariant-loop-number l = AllByRecursion (Keeps l.days) (take l.number (rules_of l.book))
+abbrev pub invariant-loop-row : goal.invariant-loop-row
+invariant-loop-row l = AllByRecursion (Keeps l.days) (take l.row-index (rules_of l.book))

@@ -1,0 +1,59 @@
+// A constraint problem: the windows of a sheet and the rules over them.
+ghost use Rattle.std.specs.Prelude.{◌≡◌, ◌≤◌, length, take};
+ghost use Rattle.std.specs.List.{AllByRecursion};
+ghost use Rattle.std.proofs.Props.{props};
+ghost use Rattle.store.specs.Sound.{Sound};
+ghost use Rattle.sheet.specs.Books.{lots_of};
+
+use sheet::book::Book;
+use store::window::Window;
+
+const LOTS: usize = 256;
+
+// The lots of the book, which are at most 256, have sound windows. The windows past them mean nothing.
+#[derive(Clone, Copy)]
+pub struct Problem {
+    pub(crate) windows: [Window; LOTS],
+    pub book: Book,
+    ghost room: { length windows ≡ 256 },
+    ghost few: { lots_of book ≤ 256 },
+    ghost sound: { AllByRecursion Sound (take (lots_of book) windows) } by { Prim.hlevel props },
+}
+
+impl Problem {
+    ghost use Rattle.std.specs.Prelude.{◌<◌, slice_set};
+    ghost use Rattle.narrow.specs.Problems.{windows_of};
+
+    // The problem of these windows, one for each lot of the book.
+    pub fn new(windows: &[Window], book: Book) -> Problem
+        requires lots { length windows.now ≡ lots_of book }
+        requires few { length windows.now ≤ 256 }
+        requires sound { AllByRecursion Sound windows.now }
+        ensures windows { windows_of result ≡ windows.now }
+        ensures book { result.book ≡ book }
+    {
+        let mut room = [Window { low: 0, high: 0 }; LOTS];
+        room[..windows.len()].copy_from_slice(windows);
+        Problem {
+            windows: room,
+            book,
+        }
+    }
+
+    // The window of each lot.
+    pub fn windows(&self) -> &[Window]
+        ensures { result.now ≡ windows_of self.now }
+    {
+        &self.windows[..self.book.lots()]
+    }
+
+    // Gives a lot another window.
+    pub fn put(&mut self, lot: usize, window: Window)
+        requires there { lot < length (windows_of self.old) }
+        requires sound { Sound window }
+        ensures windows { windows_of self.new ≡ slice_set (windows_of self.old) lot window }
+        ensures book { self.new.book ≡ self.old.book }
+    {
+        self.windows[lot] = window;
+    }
+}
