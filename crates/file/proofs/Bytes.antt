@@ -12,13 +12,6 @@ two_back a b h =
     let high : (a + 256 * b) / 256 ≡ b = omega arith in
     ap₂ (λ x y. x ∷ y ∷ []) low high
 
--- two numbers with the same bytes are the same
-pub two_same : (m n : ℕ) → two m ≡ two n → m ≡ n
-two_same m n e =
-    let low : m % 256 ≡ n % 256 = ap (λ xs. get_or xs 0 0) e in
-    let high : m / 256 ≡ n / 256 = ap (λ xs. get_or xs 1 0) e in
-    omega arith
-
 pub length_lots : (ws : List Window) → length (lots_bytes ws) ≡ 4 * length ws
 length_lots [] = refl
 length_lots (w ∷ ws) = let e = length_lots ws in omega arith

@@ -1,9 +1,10 @@
 -- One text written behind another is both of them written.
-use Rattle.std.proofs.Common.{◌≡◌, ℕ, ◌+◌, ◌*◌, ◌<◌, ◌≤◌, List, [], ◌∷◌, ◌++◌, length, get_or, take, drop, sym, ap, ◌∙◌, subst, ap₂, arith}
+use Rattle.std.proofs.Common.{◌≡◌, ℕ, ◌+◌, ◌*◌, ◌<◌, ◌≤◌, List, [], ◌++◌, length, get_or, take, drop, sym, ap, ◌∙◌, subst, ap₂, arith}
 use Rattle.std.specs.List.{flat_map, AllByRecursion}
 use borrow.Rule.Slice.PartMut.{put_mid}
 use Rattle.std.proofs.ByRecursion.{All-from_get_or}
-use Rattle.std.proofs.lemmas.List.{append_assoc, append-nil, drop_all, drop_at, drop-drop, flat_map_more, length-append, length-take-le, take_at, take_more}
+use Rattle.std.proofs.lemmas.Slice.{take-put_mid}
+use Rattle.std.proofs.lemmas.List.{append_assoc, drop_at, drop-drop, flat_map_more, length-append, length-take-le, take_at, take_more}
 use Rattle.store.specs.declared.window.Window.{Window}
 use Rattle.rules.specs.declared.row.Row.{Row}
 use Rattle.sheet.specs.declared.book.Book.{Book}
@@ -11,8 +12,11 @@ use Rattle.sheet.specs.Books.{rules_of, lots_of, row, rule_at}
 use Rattle.sheet.specs.Fits.{Fits}
 use Rattle.sheet.proofs.Books.{rules_at, rules_length}
 use Rattle.file.specs.Format.{lots_bytes, rules_bytes, trailer, file_of, SmallRule}
-use Rattle.file.specs.Writes.{over}
 use Rattle.file.proofs.Bytes.{length_lots, length_rules}
+
+-- bytes with a text written over them from a place on
+abbrev pub over : List ℕ → ℕ → List ℕ → List ℕ
+over was start text = take start was ++ (text ++ drop (start + length text) was)
 
 module _ (was mid is : List ℕ) (n m : ℕ) (xs ys : List ℕ) where
   -- one text behind another
@@ -33,16 +37,11 @@ module _ (was mid is : List ℕ) (n m : ℕ) (xs ys : List ℕ) where
       ∙ append_assoc (take n was) xs (ys ++ drop (n + length (xs ++ ys)) was)
       ∙ ap (λ t. take n was ++ t) (sym (append_assoc xs ys (drop (n + length (xs ++ ys)) was)))
 
--- one more record of a list
-pub over_joined : {X : Type 0} (f : X → List ℕ) (was mid is : List ℕ) (n m : ℕ) (xs : List X) (i : ℕ) (d x : X) → i < length xs → x ≡ get_or xs i d
-    → n + length (flat_map f (take i xs)) ≤ length was → m ≡ n + length (flat_map f (take i xs)) → mid ≡ over was n (flat_map f (take i xs)) → is ≡ over mid m (f x) → is ≡ over was n (flat_map f (take (i + 1) xs))
-over_joined f was mid is n m xs i d x h e room place one more =
-    over_more was mid is n m (flat_map f (take i xs)) (f x) room place one more
-    ∙ ap (over was n) (flat_map_more f [] (take i xs) x ∙ ap (λ y. flat_map f (take i xs ++ y ∷ [])) e ∙ ap (flat_map f) (sym (take_more xs i d h)))
-
--- a text that is as long as the bytes is all of them
-pub over_whole : (was xs : List ℕ) → length was ≡ length xs → over was 0 xs ≡ xs
-over_whole was xs h = ap (λ ys. xs ++ ys) (drop_all (0 + length xs) was (omega arith)) ∙ append-nil xs
+-- one more record of a list, behind those that stand there
+pub record_written : {X : Type 0} (f : X → List ℕ) (xs : List X) (d : X) (i n m k : ℕ) (bytes part : List ℕ) → i < length xs → n ≤ length bytes → m ≡ n + length part
+    → take n bytes ≡ flat_map f (take i xs) → part ≡ f (get_or xs i d) → take m (put_mid n k bytes part) ≡ flat_map f (take (i + 1) xs)
+record_written f xs d i n m k bytes part h room place was one =
+    take-put_mid n k bytes part m place room ∙ ap₂ (λ x y. x ++ y) was one ∙ flat_map_more f [] (take i xs) (get_or xs i d) ∙ ap (flat_map f) (sym (take_more xs i d h))
 
 -- a part of the bytes that was lent on
 pub over_part : (was : List ℕ) (n k : ℕ) (xs : List ℕ) → length xs ≡ k → put_mid n k was xs ≡ over was n xs
