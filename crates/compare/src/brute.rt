@@ -1,205 +1,123 @@
-// The second solver: it tries every choice, and takes one day at a time off a window. It shares no code with the planner.
-ghost use Rattle.std.specs.Prelude.{◌<◌};
-
-use crate::small::{Days, Small};
+// The second solver: it tries every choice of days, and takes one day at a time off a window. It shares no code with the planner.
+use crate::small::Small;
+use itertools::Itertools;
 use rules::row::Row;
+use std::alloc::{AllocError, Global};
+use store::window::Window;
 
-// More than any small sheet has choices, or steps of narrowing.
+// More than any small sheet has days to take off.
 const ENOUGH: usize = 1000;
 
-// What one step of narrowing comes to.
-#[derive(Clone, Copy)]
-enum Step {
-    // a window or a count window would be empty
-    Empty,
-    // some end was used by no choice, and is one further in now
-    Less(Small),
-    // every end is used
-    Firm,
-}
+// A day for each lot.
+type Days = Vec<u32>;
 
 // The first choice, by the day of the first lot, then of the second and so on, that keeps every rule.
-pub fn earliest(sheet: &Small) -> Option<Days> {
-    let mut days = first_choice(sheet);
+pub fn earliest(alloc: Global, sheet: &Small) -> Result<Option<Days>, AllocError> {
+    let choices = all_choices(alloc, &sheet.windows)?;
+    let plan = choices
+        .into_iter()
+        .find(|days| sheet.rules.iter().all(|rule| keeps(rule, days)));
+    Ok(plan)
+}
+
+// Moves ends inwards day by day, as long as one is used by no choice.
+pub fn greatest_firm(alloc: Global, sheet: &Small) -> Result<Option<Small>, AllocError> {
+    let mut left = sheet.clone()?;
     for _ in 0..ENOUGH {
-        if keeps_all(sheet, days) {
-            return Some(days);
+        let choices = all_choices(alloc, &left.windows)?;
+        if choices.is_empty() {
+            return Ok(None);
         }
-        days = next_choice(sheet, days)?;
+        let next = narrowed(alloc, &left, &choices)?;
+        if next == left {
+            return Ok(Some(left));
+        }
+        left = next;
     }
-    None
+    Ok(None)
 }
 
-// Moves ends inwards one by one, as long as one is used by no choice.
-pub fn greatest_firm(sheet: Small) -> Option<Small> {
-    let mut left = sheet;
-    for _ in 0..ENOUGH {
-        match step_sheet(left) {
-            Step::Empty => return None,
-            Step::Less(next) => left = next,
-            Step::Firm => return Some(left),
-        }
-    }
-    None
+// Every choice of a day from each window, in order: the days of the last lot change fastest.
+fn all_choices(alloc: Global, windows: &[Window]) -> Result<Vec<Days>, AllocError> {
+    windows
+        .iter()
+        .map(|window| window.low..=window.high)
+        .multi_cartesian_product(alloc)?
+        .try_collect(alloc)
 }
 
-fn step_sheet(sheet: Small) -> Step {
-    for number in 0..3 {
-        if number < sheet.used {
-            match step_rule(sheet, number) {
-                Step::Firm => {}
-                moved => return moved,
-            }
-        }
-    }
-    Step::Firm
+// The sheet with each end that no choice uses one further in. Where a rule is kept by no choice, its count window or the windows of its lots become empty.
+fn narrowed(alloc: Global, sheet: &Small, choices: &[Days]) -> Result<Small, AllocError> {
+    let windows = sheet.windows.iter().enumerate();
+    Ok(Small {
+        windows: windows
+            .map(|(lot, window)| narrowed_window(sheet, lot, *window, choices))
+            .collect(alloc)?,
+        rules: sheet
+            .rules
+            .iter()
+            .map(|rule| narrowed_count(*rule, choices))
+            .collect(alloc)?,
+    })
 }
 
-// Looks at one rule: its count window, then the windows of its stretch.
-fn step_rule(sheet: Small, number: usize) -> Step
-    requires { number < 3 }
-{
-    let rule = sheet.rules[number];
-    let mut next = sheet;
-    if !counted(&sheet, rule, rule.floor) {
-        next.rules[number].floor = rule.floor.saturating_add(1);
-    } else if !counted(&sheet, rule, rule.ceiling) {
-        next.rules[number].ceiling = rule.ceiling.saturating_sub(1);
-    } else {
-        return step_windows(sheet, rule);
+fn narrowed_window(sheet: &Small, lot: usize, window: Window, choices: &[Days]) -> Window {
+    let mut next = window;
+    if is_unused(sheet, lot, window.low, choices) {
+        next.low = window.low.saturating_add(1);
     }
-    if rule.floor == rule.ceiling {
-        Step::Empty
-    } else {
-        Step::Less(next)
+    if is_unused(sheet, lot, window.high, choices) {
+        next.high = window.high.saturating_sub(1);
     }
+    next
 }
 
-fn step_windows(sheet: Small, rule: Row) -> Step {
-    for lot in 0..4 {
-        if covers(rule, lot) {
-            match step_window(sheet, rule, lot) {
-                Step::Firm => {}
-                moved => return moved,
-            }
-        }
+fn narrowed_count(rule: Row, choices: &[Days]) -> Row {
+    let mut next = rule;
+    if !is_counted(&rule, rule.floor, choices) {
+        next.floor = rule.floor.saturating_add(1);
     }
-    Step::Firm
+    if !is_counted(&rule, rule.ceiling, choices) {
+        next.ceiling = rule.ceiling.saturating_sub(1);
+    }
+    next
 }
 
-fn step_window(sheet: Small, rule: Row, lot: usize) -> Step
-    requires { lot < 4 }
-{
-    let window = sheet.windows[lot];
-    let mut next = sheet;
-    if !used(&sheet, rule, lot, window.low) {
-        next.windows[lot].low = window.low.saturating_add(1);
-    } else if !used(&sheet, rule, lot, window.high) {
-        next.windows[lot].high = window.high.saturating_sub(1);
-    } else {
-        return Step::Firm;
-    }
-    if window.low == window.high {
-        Step::Empty
-    } else {
-        Step::Less(next)
-    }
-}
-
-// Some choice has this count over the rule's stretch.
-fn counted(sheet: &Small, rule: Row, count: u32) -> bool {
-    let mut days = first_choice(sheet);
-    for _ in 0..ENOUGH {
-        if count_days(rule, days) == count {
-            return true;
-        }
-        match next_choice(sheet, days) {
-            Some(next) => days = next,
-            None => return false,
-        }
-    }
-    false
+// Some rule over the lot is kept by no choice that gives the lot this day.
+fn is_unused(sheet: &Small, lot: usize, day: u32, choices: &[Days]) -> bool {
+    sheet
+        .rules
+        .iter()
+        .filter(|rule| rule.first <= lot && lot < rule.first.saturating_add(rule.length))
+        .any(|rule| !is_used(rule, lot, day, choices))
 }
 
 // Some choice that keeps the rule gives the lot this day.
-fn used(sheet: &Small, rule: Row, lot: usize, day: u32) -> bool
-    requires { lot < 4 }
-{
-    let mut days = first_choice(sheet);
-    for _ in 0..ENOUGH {
-        if days.day[lot] == day && keeps(rule, days) {
-            return true;
-        }
-        match next_choice(sheet, days) {
-            Some(next) => days = next,
-            None => return false,
-        }
-    }
-    false
+fn is_used(rule: &Row, lot: usize, day: u32, choices: &[Days]) -> bool {
+    choices
+        .iter()
+        .any(|days| days.get(lot) == Some(&day) && keeps(rule, days))
 }
 
-fn keeps_all(sheet: &Small, days: Days) -> bool {
-    for number in 0..3 {
-        if number < sheet.used && !keeps(sheet.rules[number], days) {
-            return false;
-        }
-    }
-    true
+// Some choice has this count over the rule's stretch.
+fn is_counted(rule: &Row, count: u32, choices: &[Days]) -> bool {
+    choices
+        .iter()
+        .any(|days| count_days(rule, days) == count as usize)
 }
 
-fn keeps(rule: Row, days: Days) -> bool {
+fn keeps(rule: &Row, days: &[u32]) -> bool {
     let count = count_days(rule, days);
-    rule.floor <= count && count <= rule.ceiling
+    rule.floor as usize <= count && count <= rule.ceiling as usize
 }
 
 // A day counts where no earlier lot of the stretch has it.
-fn count_days(rule: Row, days: Days) -> u32 {
-    let mut count = 0u32;
-    for lot in 0..4 {
-        if covers(rule, lot) && !taken_before(rule, days, lot) {
-            count = count.saturating_add(1);
-        }
-    }
-    count
-}
-
-fn taken_before(rule: Row, days: Days, lot: usize) -> bool
-    requires { lot < 4 }
-{
-    for other in 0..lot {
-        if covers(rule, other) && days.day[other] == days.day[lot] {
-            return true;
-        }
-    }
-    false
-}
-
-fn covers(rule: Row, lot: usize) -> bool {
-    rule.first <= lot && lot < rule.first.saturating_add(rule.length)
-}
-
-// Every lot on its first day.
-fn first_choice(sheet: &Small) -> Days {
-    let mut days = Days { day: [0; 4] };
-    for lot in 0..4 {
-        if lot < sheet.lots {
-            days.day[lot] = sheet.windows[lot].low;
-        }
-    }
-    days
-}
-
-// The next choice in order: the last lot that can go a day up does, and all after it go back to their first day.
-fn next_choice(sheet: &Small, days: Days) -> Option<Days> {
-    let mut next = days;
-    for lot in (0..4).rev() {
-        if lot < sheet.lots {
-            if next.day[lot] < sheet.windows[lot].high {
-                next.day[lot] = next.day[lot].saturating_add(1);
-                return Some(next);
-            }
-            next.day[lot] = sheet.windows[lot].low;
-        }
-    }
-    None
+fn count_days(rule: &Row, days: &[u32]) -> usize {
+    let lots = days.iter().skip(rule.first).take(rule.length);
+    lots.enumerate()
+        .filter(|(place, day)| {
+            let mut earlier = days.iter().skip(rule.first).take(*place);
+            !earlier.any(|other| other == *day)
+        })
+        .count()
 }

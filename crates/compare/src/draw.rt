@@ -1,7 +1,14 @@
 // Drawing small sheets, the same ones in every run.
 use crate::small::Small;
 use rules::row::Row;
+use std::alloc::{AllocError, Global};
+use std::array;
 use store::window::Window;
+
+// Each sheet takes so many draws, however many of them it keeps.
+const LOTS: usize = 4;
+
+const RULES: usize = 3;
 
 #[derive(Drop)]
 pub struct Draw {
@@ -20,32 +27,19 @@ impl Draw {
             .wrapping_mul(6364136223846793005)
             .wrapping_add(1442695040888963407);
         let drawn = ((self.state >> 33) & 0xffff) as u32;
-        if n == 0 { 0 } else { drawn % n }
+        drawn.checked_rem(n).unwrap_or(0)
     }
 
     // Three or four lots within six days, and one to three rules over stretches that mostly overlap.
-    pub fn sheet(&mut self) -> Small {
+    pub fn sheet(&mut self, alloc: Global) -> Result<Small, AllocError> {
         let lots = 3 + self.below(2) as usize;
-        let mut windows = [Window { low: 0, high: 0 }; 4];
-        for i in 0..4 {
-            windows[i] = self.window();
-        }
+        let windows: [Window; LOTS] = array::from_fn(|_| self.window());
         let used = 1 + self.below(3) as usize;
-        let mut rules = [Row {
-            first: 0,
-            length: 1,
-            floor: 0,
-            ceiling: 4,
-        }; 3];
-        for i in 0..3 {
-            rules[i] = self.rule(lots);
-        }
-        Small {
-            lots,
-            windows,
-            used,
-            rules,
-        }
+        let rules: [Row; RULES] = array::from_fn(|_| self.rule(lots));
+        Ok(Small {
+            windows: windows.iter().copied().take(lots).collect(alloc)?,
+            rules: rules.iter().copied().take(used).collect(alloc)?,
+        })
     }
 
     fn window(&mut self) -> Window {

@@ -1,40 +1,20 @@
 -- The rules that some bytes hold: taken out one by one, and cut off where no book holds more.
-use Rattle.std.proofs.Common.{◌≡◌, ℕ, zero, suc, ◌+◌, ◌-◌, ◌*◌, ◌/◌, ◌<◌, min, List, [], ◌∷◌, ◌++◌, length, take, drop, set, Result, sym, refl, ap, ◌∙◌, subst, ap₂, inl, inr, arith}
+use Rattle.std.proofs.Common.{◌≡◌, ℕ, zero, suc, ◌+◌, ◌-◌, ◌*◌, ◌/◌, ◌<◌, min, List, ◌∷◌, ◌++◌, length, take, drop, Result, sym, ap, ◌∙◌, subst, inl, inr, arith}
 use Rattle.std.proofs.lemmas.Bool.{cases_lt}
-use Rattle.std.proofs.lemmas.List.{append_assoc, drop-drop, length-append, length-drop, take-append-drop, take_more_set, take_rest}
+use Rattle.std.proofs.lemmas.List.{append_assoc, drop-drop, length-append, length-drop, take-append-drop}
 use Rattle.rules.specs.declared.row.Row.{Row}
 use Rattle.sheet.specs.declared.book.Book.{Book}
 use Rattle.sheet.specs.declared.fault.SheetFault.{SheetFault}
 use Rattle.sheet.specs.declared.slip.Draft.{Draft}
-use Rattle.sheet.specs.Books.{rules_of, row}
+use Rattle.sheet.specs.Books.{rules_of}
 use Rattle.sheet.specs.Drafts.{AddsAll, refused, all_added}
 use Rattle.sheet.proofs.Books.{rules_length}
 use Rattle.sheet.proofs.Drafts.{each_rules}
 use Rattle.file.specs.declared.fault.FileFault.{FileFault}
 use Rattle.file.specs.Format.{rules_bytes}
-use Rattle.file.specs.Rows.{AddsBytes, adds, number_at, row_in, rows_in, told}
-use Rattle.file.proofs.Reading.{Bytes, rows_back, rows_many, rows_small}
-
--- a rule from its eight bytes, which a subslice holds
-pub row_from : (bs : List ℕ) (n a b c d : ℕ) → a ≡ number_at (take (length bs - n) (drop n bs)) 0 → b ≡ number_at (take (length bs - n) (drop n bs)) 2
-    → c ≡ number_at (take (length bs - n) (drop n bs)) 4 → d ≡ number_at (take (length bs - n) (drop n bs)) 6 → row a b c d ≡ row_in (drop n bs)
-row_from bs n a b c d ea eb ec ed =
-    ap₂ (λ x y. row x y c d) ea eb
-    ∙ ap₂ (λ x y. row (number_at (take (length bs - n) (drop n bs)) 0) (number_at (take (length bs - n) (drop n bs)) 2) x y) ec ed
-    ∙ ap row_in (take_rest bs n)
-
--- one more rule
-pub rows_more : (n : ℕ) (bs : List ℕ) → rows_in (n + 1) bs ≡ rows_in n bs ++ row_in (drop (8 * n) bs) ∷ []
-rows_more zero bs = refl
-rows_more (suc n) bs =
-    let e : suc n + 1 ≡ suc (n + 1) = omega arith in
-    let f : 8 + 8 * n ≡ 8 * suc n = omega arith in
-    ap (λ k. rows_in k bs) e
-    ∙ ap (λ xs. row_in bs ∷ xs) (rows_more n (drop 8 bs))
-    ∙ ap (λ xs. row_in bs ∷ (rows_in n (drop 8 bs) ++ row_in xs ∷ [])) (drop-drop (8 * n) 8 bs ∙ ap (λ k. drop k bs) f)
-
-pub taken_more : (taken : List Row) (bs : List ℕ) (i : ℕ) (r : Row) → i < length taken → take i taken ≡ rows_in i bs → r ≡ row_in (drop (8 * i) bs) → take (i + 1) (set taken i r) ≡ rows_in (i + 1) bs
-taken_more taken bs i r h was one = take_more_set taken i r h ∙ ap₂ (λ xs x. xs ++ x ∷ []) was one ∙ sym (rows_more i bs)
+use Rattle.file.specs.Rows.{AddsBytes, adds, told}
+use Rattle.file.proofs.Reading.{Bytes, row_in, rows_in, rows_back, rows_many, rows_small}
+use Rattle.file.proofs.Sheets.{rules_same}
 
 -- the first rules and the rest
 pub rows_split : (n m : ℕ) (bs : List ℕ) → rows_in (n + m) bs ≡ rows_in n bs ++ rows_in m (drop (8 * n) bs)
@@ -55,9 +35,11 @@ adds_front front back slip was s slip' is many (all_added each r) =
 
 module _ (bs : List ℕ) (byte : Bytes bs) (slip : Draft) (was : Book) (s : Result (Unit {0}) SheetFault) (slip' : Draft) (is : Book) where
   -- the contract of the reader, from what add rows gives for the first rules
-  pub adds_bytes : (count : ℕ) (r : Result (Unit {0}) FileFault) → count ≡ min (length bs / 8) 33 → AddsAll (rows_in count bs) slip was s slip' is → r ≡ told s → AddsBytes bs slip was r slip' is
-  adds_bytes count r e each t =
+  pub adds_bytes : (count : ℕ) (rows : List Row) (r : Result (Unit {0}) FileFault) → count ≡ min (length bs / 8) 33 → rules_bytes rows ≡ take (8 * count) bs → AddsAll rows slip was s slip' is → r ≡ told s → AddsBytes bs slip was r slip' is
+  adds_bytes count rows r e bytes added t =
       let n = length bs / 8 in
+      let same : rows ≡ rows_in count bs = rules_same rows (rows_in count bs) (bytes ∙ sym (rows_back count bs (omega arith) byte)) in
+      let each : AddsAll (rows_in count bs) slip was s slip' is = subst (λ xs. AddsAll xs slip was s slip' is) same added in
       let back : rules_bytes (rows_in n bs) ≡ take (8 * n) bs = rows_back n bs (omega arith) byte in
       let all : AddsAll (rows_in n bs) slip was s slip' is =
       elim (cases_lt n 34) [

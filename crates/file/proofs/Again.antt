@@ -29,30 +29,27 @@ pub just_these : (rows : List Row) (slip : Draft) (was : Book) (r : Result (Unit
     → (s : Result (Unit {0}) SheetFault) × AddsAll rows slip was s slip' is × (r ≡ told s)
 just_these rows slip was r slip' is (adds qs rest s _ e short each t) = (s, subst (λ xs. AddsAll xs slip was s slip' is) (just_rows rows qs rest e short) each, t)
 
-not_both : {T E : Type 0} {x : T} {y : E} → ◌≡◌ {A = Result T E} (Ok x) (Err y) → ⊥
-not_both e = let z : ◌≡◌ {A = ℕ} 0 1 = cc in omega arith
-
 -- accepted rules stand in the book
 all_stand : (rows : List Row) (slip : Draft) (was : Book) (s : Result (Unit {0}) SheetFault) (slip' : Draft) (is : Book) → Ok tt ≡ told s → AddsAll rows slip was s slip' is → rules_of is ≡ rules_of was ++ rows
-all_stand rows slip was (Err why) slip' is t each = absurd (not_both t)
-all_stand rows slip was (Ok done) slip' is t (refused before after q mid book why _ _ _ r _ _) = absurd (not_both r)
+all_stand rows slip was (Err why) slip' is t each = cc
+all_stand rows slip was (Ok done) slip' is t (refused before after q mid book why _ _ _ r _ _) = cc
 all_stand rows slip was (Ok done) slip' is t (all_added each _) = each_rules rows slip was slip' is each
 
 -- what writing gives where it answers a number
 written_file : (ws : List Window) (book : Book) (into : List ℕ) (n : ℕ) (out : List ℕ) → Writes ws book into (Ok n) out
     → (n ≡ length (sheet_file ws book)) × (out ≡ sheet_file ws book ++ drop (length (sheet_file ws book)) into)
-written_file ws book into n out (too_many_lots _ e _) = absurd (not_both e)
-written_file ws book into n out (mismatch _ _ e _) = absurd (not_both e)
-written_file ws book into n out (faulty_window _ _ _ _ e _) = absurd (not_both e)
-written_file ws book into n out (short_bytes _ _ _ _ e _) = absurd (not_both e)
+written_file ws book into n out (too_many_lots _ e _) = cc
+written_file ws book into n out (mismatch _ _ e _) = cc
+written_file ws book into n out (faulty_window _ _ _ _ e _) = cc
+written_file ws book into n out (short_bytes _ _ _ _ e _) = cc
 written_file ws book into n out (written _ _ _ _ _ e is) = (cc, is)
 
 module _ (file words is : List ℕ) (h : Contents) (slip : Draft) (was : Book) (slip' : Draft) (book : Book) (into : List ℕ) (n : ℕ) (out : List ℕ) where
   pub written_again : Reads file words (Ok h) is → rules_of was ≡ [] → AddsBytes h.rows.now slip was (Ok tt) slip' book → Writes (paired (take (2 * h.lots) is)) book into (Ok n) out
       → (n ≡ length file) × (out ≡ file ++ drop (length file) into)
-  written_again (no_sheet_file _ e _) empty added writes = absurd (not_both e)
-  written_again (trailer_disagrees _ _ e _) empty added writes = absurd (not_both e)
-  written_again (short_words _ _ _ e _) empty added writes = absurd (not_both e)
+  written_again (no_sheet_file _ e _) empty added writes = cc
+  written_again (trailer_disagrees _ _ e _) empty added writes = cc
+  written_again (short_words _ _ _ e _) empty added writes = cc
   written_again (held ws rows k _ _ _ _ _ file-is _ _ ok lots _ part words_are _) empty added writes =
       let same : h ≡ k = cc in
       let bytes : h.rows.now ≡ rules_bytes rows = ap (λ x. x.rows.now) same ∙ part in

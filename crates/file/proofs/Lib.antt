@@ -3,4 +3,5 @@ pub mod Again
 pub mod Bytes
 pub mod Over
 pub mod Reading
+pub mod Records
 pub mod Sheets

@@ -1,33 +1,22 @@
 -- One text written behind another is both of them written.
-use Rattle.std.proofs.Common.{◌≡◌, ℕ, ◌+◌, ◌*◌, ◌<◌, ◌≤◌, List, [], ◌∷◌, ◌++◌, length, get_or, take, drop, set, sym, refl, ap, ◌∙◌, subst, ap₂, add-one, arith}
+use Rattle.std.proofs.Common.{◌≡◌, ℕ, ◌+◌, ◌*◌, ◌<◌, ◌≤◌, List, [], ◌++◌, length, get_or, take, drop, sym, ap, ◌∙◌, subst, ap₂, arith}
 use Rattle.std.specs.List.{flat_map, AllByRecursion}
-use Rattle.std.proofs.ByRecursion.{All-get_or}
-use Rattle.std.proofs.lemmas.List.{append_assoc, drop_at, drop-drop, get_or-take, flat_map_more, length-append, length-drop, length-set, length-take-le, set_split, take_at, take-append-drop, take_more}
+use borrow.Rule.Slice.PartMut.{put_mid}
+use Rattle.std.proofs.ByRecursion.{All-from_get_or}
+use Rattle.std.proofs.lemmas.Slice.{take-put_mid}
+use Rattle.std.proofs.lemmas.List.{append_assoc, drop_at, drop-drop, flat_map_more, length-append, length-take-le, take_at, take_more}
 use Rattle.store.specs.declared.window.Window.{Window}
-use Rattle.store.specs.Sound.{Sound}
-use Rattle.store.specs.Windows.{window, window_at}
 use Rattle.rules.specs.declared.row.Row.{Row}
 use Rattle.sheet.specs.declared.book.Book.{Book}
 use Rattle.sheet.specs.Books.{rules_of, lots_of, row, rule_at}
 use Rattle.sheet.specs.Fits.{Fits}
 use Rattle.sheet.proofs.Books.{rules_at, rules_length}
-use Rattle.file.specs.Format.{two, lot_bytes, lots_bytes, rules_bytes, trailer, file_of, SmallLot, SmallRule}
-use Rattle.file.specs.Writes.{over}
+use Rattle.file.specs.Format.{lots_bytes, rules_bytes, trailer, file_of, SmallRule}
 use Rattle.file.proofs.Bytes.{length_lots, length_rules}
 
--- no text
-pub over_none : (was : List ℕ) (n : ℕ) → over was n [] ≡ was
-over_none was n = ap (λ k. take n was ++ drop k was) (let e : n + 0 ≡ n = omega arith in e) ∙ take-append-drop n was
-
--- one byte
-pub over_one : (was : List ℕ) (n v : ℕ) → n < length was → set was n v ≡ over was n (v ∷ [])
-over_one was n v h = set_split was n v h ∙ ap (λ k. take n was ++ v ∷ drop k was) (sym (add-one n))
-
-pub over_length : (was : List ℕ) (n : ℕ) (xs : List ℕ) → n + length xs ≤ length was → length (over was n xs) ≡ length was
-over_length was n xs h =
-    let a = length-append (take n was) (xs ++ drop (n + length xs) was) in
-    let b = length-append xs (drop (n + length xs) was) in
-    omega (arith, length-take-le n was (omega arith), length-drop (n + length xs) was)
+-- bytes with a text written over them from a place on
+abbrev pub over : List ℕ → ℕ → List ℕ → List ℕ
+over was start text = take start was ++ (text ++ drop (start + length text) was)
 
 module _ (was mid is : List ℕ) (n m : ℕ) (xs ys : List ℕ) where
   -- one text behind another
@@ -48,50 +37,25 @@ module _ (was mid is : List ℕ) (n m : ℕ) (xs ys : List ℕ) where
       ∙ append_assoc (take n was) xs (ys ++ drop (n + length (xs ++ ys)) was)
       ∙ ap (λ t. take n was ++ t) (sym (append_assoc xs ys (drop (n + length (xs ++ ys)) was)))
 
--- two bytes, and numbers one behind the other
-pub over_two : (was : List ℕ) (n a b : ℕ) → n + 2 ≤ length was → set (set was n a) (n + 1) b ≡ over was n (a ∷ b ∷ [])
-over_two was n a b h =
-    over_more was (set was n a) (set (set was n a) (n + 1) b) n (n + 1) (a ∷ []) (b ∷ []) (omega arith) refl (over_one was n a (omega arith))
-    (over_one (set was n a) (n + 1) b (omega (arith, length-set was n a)))
+-- one more record of a list, behind those that stand there
+pub record_written : {X : Type 0} (f : X → List ℕ) (xs : List X) (d : X) (i n m k : ℕ) (bytes part : List ℕ) → i < length xs → n ≤ length bytes → m ≡ n + length part
+    → take n bytes ≡ flat_map f (take i xs) → part ≡ f (get_or xs i d) → take m (put_mid n k bytes part) ≡ flat_map f (take (i + 1) xs)
+record_written f xs d i n m k bytes part h room place was one =
+    take-put_mid n k bytes part m place room ∙ ap₂ (λ x y. x ++ y) was one ∙ flat_map_more f [] (take i xs) (get_or xs i d) ∙ ap (flat_map f) (sym (take_more xs i d h))
 
--- one more record of a list
-pub over_joined : {X : Type 0} (f : X → List ℕ) (was mid is : List ℕ) (n m : ℕ) (xs : List X) (i : ℕ) (d x : X) → i < length xs → x ≡ get_or xs i d
-    → n + length (flat_map f (take i xs)) ≤ length was → m ≡ n + length (flat_map f (take i xs)) → mid ≡ over was n (flat_map f (take i xs)) → is ≡ over mid m (f x) → is ≡ over was n (flat_map f (take (i + 1) xs))
-over_joined f was mid is n m xs i d x h e room place one more =
-    over_more was mid is n m (flat_map f (take i xs)) (f x) room place one more
-    ∙ ap (over was n) (flat_map_more f [] (take i xs) x ∙ ap (λ y. flat_map f (take i xs ++ y ∷ [])) e ∙ ap (flat_map f) (sym (take_more xs i d h)))
+-- a part of the bytes that was lent on
+pub over_part : (was : List ℕ) (n k : ℕ) (xs : List ℕ) → length xs ≡ k → put_mid n k was xs ≡ over was n xs
+over_part was n k xs h = ap (λ ys. take n was ++ (xs ++ ys)) (drop-drop k n was ∙ ap (λ m. drop m was) (let e : n + k ≡ n + length xs = omega arith in e))
 
--- a sheet's windows and rules fit two bytes
-pub lot_small : (ws : List Window) (lots i : ℕ) (w : Window) → i < lots → lots ≤ length ws → AllByRecursion Sound (take lots ws) → w ≡ window_at ws i → SmallLot w
-lot_small ws lots i w h fits sound e =
-    let s : Sound w = subst Sound (get_or-take lots ws i (window 0 0) h ∙ sym e) (All-get_or Sound (take lots ws) i (window 0 0) (omega (arith, length-take-le lots ws fits)) sound) in
-    (omega (arith, s.0, s.1), omega (arith, s.1))
-
-pub rule_small : (book : Book) (k : ℕ) (r : Row) → k < length (rules_of book) → lots_of book ≤ 256 → r ≡ rule_at (rules_of book) k → SmallRule r
-rule_small book k r h few e =
+-- the rules of a book fit two bytes
+pub rules_small : (book : Book) → lots_of book ≤ 256 → AllByRecursion SmallRule (rules_of book)
+rules_small book few = All-from_get_or SmallRule (rules_of book) (row 0 0 0 0) (λ k h.
     let n : k < book.used = omega (arith, rules_length book) in
-    let s : Fits (lots_of book) r = subst (Fits (lots_of book)) (sym (e ∙ rules_at book k n)) (book.kept k (row 0 0 0 0) n) in
-    (omega (arith, s.0, s.1), omega (arith, s.1), omega (arith, s.2, s.3), omega (arith, s.3))
-
-module _ (was : List ℕ) (n : ℕ) where
-  pub over_lot : (mid is : List ℕ) (w : Window) → n + 4 ≤ length was → mid ≡ over was n (two w.low) → is ≡ over mid (n + 2) (two w.high) → is ≡ over was n (lot_bytes w)
-  over_lot mid is w room one more = over_more was mid is n (n + 2) (two w.low) (two w.high) (omega arith) refl one more
-
-  -- three numbers and a text
-  pub over_record : (b₁ b₂ b₃ is : List ℕ) (a b c : ℕ) (text : List ℕ) → n + 6 ≤ length was → b₁ ≡ over was n (two a) → b₂ ≡ over b₁ (n + 2) (two b) → b₃ ≡ over b₂ (n + 4) (two c) → is ≡ over b₃ (n + 6) text
-      → is ≡ over was n (two a ++ (two b ++ (two c ++ text)))
-  over_record b₁ b₂ b₃ is a b c text room e₁ e₂ e₃ e =
-      let two_done = over_more was b₁ b₂ n (n + 2) (two a) (two b) (omega arith) refl e₁ e₂ in
-      let three_done = over_more was b₂ b₃ n (n + 4) (two a ++ two b) (two c) (omega arith) refl two_done e₃ in
-      over_more was b₃ is n (n + 6) (two a ++ (two b ++ two c)) text (omega arith) refl three_done e
-
-  -- the letters at the end
-  pub over_letters : (a b : ℕ) → n + 8 ≤ length was → set (set was (n + 6) a) (n + 7) b ≡ over was (n + 6) (a ∷ b ∷ [])
-  over_letters a b room =
-      ap (λ k. set (set was (n + 6) a) k b) (let e : n + 7 ≡ n + 6 + 1 = omega arith in e) ∙ over_two was (n + 6) a b (omega arith)
+    let s : Fits (lots_of book) (rule_at (rules_of book) k) = subst (Fits (lots_of book)) (sym (rules_at book k n)) (book.kept k (row 0 0 0 0) n) in
+    (omega (arith, s.0, s.1), omega (arith, s.1), omega (arith, s.2, s.3), omega (arith, s.3)))
 
 -- the whole file, from its three parts
-pub over_file : (was b₁ b₂ is : List ℕ) (ws : List Window) (rows : List Row) (lots rules : ℕ) → lots ≡ length ws → rules ≡ length rows → 4 * lots + 8 * rules + 8 ≤ length was
+over_file : (was b₁ b₂ is : List ℕ) (ws : List Window) (rows : List Row) (lots rules : ℕ) → lots ≡ length ws → rules ≡ length rows → 4 * lots + 8 * rules + 8 ≤ length was
     → b₁ ≡ over was 0 (lots_bytes ws) → b₂ ≡ over b₁ (4 * lots) (rules_bytes rows) → is ≡ over b₂ (4 * lots + 8 * rules) (trailer lots rules)
     → is ≡ file_of ws rows ++ drop (length (file_of ws rows)) was
 over_file was b₁ b₂ is ws rows lots rules el er room e₁ e₂ e =
@@ -104,3 +68,14 @@ over_file was b₁ b₂ is ws rows lots rules el er room e₁ e₂ e =
     over_more was b₂ is 0 (4 * lots + 8 * rules) (lots_bytes ws ++ rules_bytes rows) t (omega arith) (omega arith) both last
     ∙ ap (over was 0) (append_assoc (lots_bytes ws) (rules_bytes rows) t)
     ∙ ap (λ k. file_of ws rows ++ drop k was) (let k : 0 + length (file_of ws rows) ≡ length (file_of ws rows) = omega arith in k)
+
+pub file_written : (was xs ys zs : List ℕ) (ws : List Window) (rows : List Row) (lots rules k m : ℕ) → lots ≡ length ws → rules ≡ length rows → 4 * lots + 8 * rules + 8 ≤ length was
+    → k ≡ 8 * rules → m ≡ 8 → xs ≡ lots_bytes ws → ys ≡ rules_bytes rows → zs ≡ trailer lots rules
+    → put_mid (4 * lots + 8 * rules) m (put_mid (4 * lots) k (xs ++ drop (4 * lots) was) ys) zs ≡ file_of ws rows ++ drop (length (file_of ws rows)) was
+file_written was xs ys zs ws rows lots rules k m el er room ek em ex ey ez =
+    let b₁ = xs ++ drop (4 * lots) was in
+    let b₂ = put_mid (4 * lots) k b₁ ys in
+    let first : b₁ ≡ over was 0 (lots_bytes ws) = ap₂ (λ x n. x ++ drop n was) ex (let n : 4 * lots ≡ 0 + length (lots_bytes ws) = omega (arith, length_lots ws) in n) in
+    let second : b₂ ≡ over b₁ (4 * lots) (rules_bytes rows) = over_part b₁ (4 * lots) k ys (omega (arith, ap length ey, length_rules rows)) ∙ ap (over b₁ (4 * lots)) ey in
+    let third = over_part b₂ (4 * lots + 8 * rules) m zs (omega (arith, ap length ez)) ∙ ap (over b₂ (4 * lots + 8 * rules)) ez in
+    over_file was b₁ b₂ _ ws rows lots rules el er room first second third

@@ -1,13 +1,28 @@
 -- A file that agrees with its trailer is the file of its lots and its rules.
 use Rattle.std.proofs.Common.{◌≡◌, ℕ, zero, suc, ◌+◌, ◌-◌, ◌*◌, ◌<◌, ◌≤◌, List, [], ◌∷◌, ◌++◌, length, get_or, take, drop, Ok, sym, refl, ap, ◌∙◌, subst, ap₂, arith, take-add}
-use Rattle.std.specs.List.{AllByRecursion}
-use Rattle.std.proofs.lemmas.List.{drop-drop, get_or-drop, length-drop, length-take-le, take_all, take-append-drop}
+use Rattle.std.specs.List.{AllByRecursion, flat_map}
+use Rattle.std.proofs.lemmas.List.{drop_at, drop-drop, get_or-drop, length-drop, length-take-le, take_all, take_at, take-append-drop}
 use Rattle.store.specs.Pairs.{paired}
+use Rattle.rules.specs.declared.row.Row.{Row}
+use Rattle.sheet.specs.Books.{row}
 use Rattle.file.specs.declared.read.Contents.{Contents}
-use Rattle.file.specs.Format.{two, rule_bytes, lots_bytes, rules_bytes, trailer, file_of, SmallLot, SmallRule}
+use Rattle.file.specs.Format.{two, rule_bytes, lots_bytes, rules_bytes, trailer, file_of, Small, SmallRule}
 use Rattle.file.specs.Reads.{Reads, Ends, Agrees, end_byte, place_in, lots_in, rules_in, held}
-use Rattle.file.specs.Rows.{number_at, row_in, rows_in}
 use Rattle.file.proofs.Bytes.{eight, length_lots, rule_back, two_back}
+use Rattle.file.proofs.Records.{length_numbers, lots_numbers, small_lots}
+
+-- the number at a place of some bytes
+abbrev pub number_at : List ℕ → ℕ → ℕ
+number_at bs k = get_or bs k 0 + 256 * get_or bs (k + 1) 0
+
+-- the rule in the first eight bytes
+abbrev pub row_in : List ℕ → Row
+row_in bs = row (number_at bs 0) (number_at bs 2) (number_at bs 4) (number_at bs 6)
+
+-- so many rules, eight bytes each
+abbrev pub rows_in : ℕ → List ℕ → List Row
+rows_in zero bs = []
+rows_in (suc n) bs = row_in bs ∷ rows_in n (drop 8 bs)
 
 -- every byte is below 256
 abbrev pub Bytes : List ℕ → Type 0
@@ -52,18 +67,20 @@ end_is file byte ends =
     (ap₂ (λ x y. x ++ y) (two_back (end_byte file 2) (end_byte file 3) (byte' 2))
     (ap₂ (λ x y. x ++ y) (two_back (end_byte file 4) (end_byte file 5) (byte' 4)) (ap₂ (λ x y. x ∷ y ∷ []) (sym ends.1) (sym ends.2)))))
 
-module _ (file was is : List ℕ) (byte : Bytes file) (ends : Ends file) (agrees : Agrees file) where
-  -- what was read of such a file
-  pub read_held : (h : Contents) (n m : ℕ) → n ≡ lots_in file → m ≡ rules_in file → 2 * n ≤ length was → lots_bytes (paired (take (2 * n) is)) ≡ take (4 * n) file → AllByRecursion SmallLot (paired (take (2 * n) is)) → drop (2 * n) is ≡ drop (2 * n) was
-      → h.lots ≡ n → h.rules ≡ m → h.rows.now ≡ take (8 * m) (drop (4 * n) file) → Reads file was (Ok h) is
-  read_held h n m en em room bytes few rest el er part =
-      let ws = paired (take (2 * n) is) in
+module _ (file was ns : List ℕ) (byte : Bytes file) (ends : Ends file) (agrees : Agrees file) where
+  -- what was read of such a file: the numbers of its lots in the first words
+  pub read_held : (h : Contents) (n m : ℕ) → n ≡ lots_in file → m ≡ rules_in file → 2 * n ≤ length was → flat_map two ns ≡ take (4 * n) file → AllByRecursion Small ns
+      → h.lots ≡ n → h.rules ≡ m → h.rows.now ≡ take (8 * m) (drop (4 * n) file) → Reads file was (Ok h) (ns ++ drop (2 * n) was)
+  read_held h n m en em room bytes few el er part =
+      let ws = paired ns in
       let tail = drop (4 * n) file in
       let rows = rows_in m tail in
       let byte' = bytes_drop (4 * n) file byte in
       let long : length file ≡ 4 * n + 8 * m + 8 = omega (arith, agrees.1) in
+      let twice : length ns ≡ 2 * n = omega (arith, length_numbers ns, ap length bytes, length-take-le (4 * n) file (omega arith)) in
+      let lots : lots_bytes ws ≡ take (4 * n) file = lots_numbers n ns twice ∙ bytes in
       let many : length rows ≡ m = rows_many m tail in
-      let some : length ws ≡ n = omega (arith, length_lots ws, ap length bytes, length-take-le (4 * n) file (omega arith)) in
+      let some : length ws ≡ n = omega (arith, length_lots ws, ap length lots, length-take-le (4 * n) file (omega arith)) in
       let back : rules_bytes rows ≡ take (8 * m) tail = rows_back m tail (omega (arith, length-drop (4 * n) file)) byte' in
       let place : place_in file ≡ 4 * length ws = omega (arith, agrees.0) in
       let last : drop (8 * m) tail ≡ trailer (length ws) (length rows) =
@@ -74,6 +91,7 @@ module _ (file was is : List ℕ) (byte : Bytes file) (ends : Ends file) (agrees
       ∙ ap₂ (λ k j. two (4 * length ws) ++ (two k ++ (two j ++ (72 ∷ 68 ∷ [])))) (sym en ∙ sym some) (sym em ∙ sym many) in
       let file_is : file ≡ file_of ws rows =
       sym (take-append-drop (4 * n) file)
-      ∙ ap₂ (λ x y. x ++ y) (sym bytes) (sym (take-append-drop (8 * m) tail) ∙ ap₂ (λ x y. x ++ y) (sym back) last) in
-      held ws rows h ends agrees (omega arith) few (rows_small m tail byte') file_is (omega (arith, agrees.2)) (omega (arith, agrees.3)) refl (el ∙ sym some) (er ∙ sym many) (part ∙ sym back)
-      (ap (λ k. paired (take (2 * k) is)) some) (ap (λ k. drop (2 * k) is) some ∙ rest ∙ sym (ap (λ k. drop (2 * k) was) some))
+      ∙ ap₂ (λ x y. x ++ y) (sym lots) (sym (take-append-drop (8 * m) tail) ∙ ap₂ (λ x y. x ++ y) (sym back) last) in
+      held ws rows h ends agrees (omega arith) (small_lots n ns twice few) (rows_small m tail byte') file_is (omega (arith, agrees.2)) (omega (arith, agrees.3)) refl (el ∙ sym some) (er ∙ sym many) (part ∙ sym back)
+      (ap (λ k. paired (take (2 * k) (ns ++ drop (2 * n) was))) some ∙ ap paired (take_at ns (drop (2 * n) was) (2 * n) twice))
+      (ap (λ k. drop (2 * k) (ns ++ drop (2 * n) was)) some ∙ drop_at ns (drop (2 * n) was) (2 * n) twice ∙ sym (ap (λ k. drop (2 * k) was) some))

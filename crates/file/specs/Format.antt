@@ -27,6 +27,9 @@ abbrev pub file_of : List Window → List Row → List ℕ
 file_of ws rows = lots_bytes ws ++ (rules_bytes rows ++ trailer (length ws) (length rows))
 
 -- numbers that two bytes can hold
+abbrev pub Small : ℕ → Type 0
+Small n = n < 65536
+
 abbrev pub SmallLot : Window → Type 0
 SmallLot w = (w.low < 65536) × (w.high < 65536)
 

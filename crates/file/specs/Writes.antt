@@ -1,5 +1,5 @@
 -- What writing a sheet file gives, case by case in the order of the checks; a refusal leaves the bytes as they were.
-use Rattle.std.specs.Prelude.{◌≡◌, ℕ, ◌+◌, ◌<◌, ◌≤◌, List, ◌++◌, length, take, drop, Ok, Err, Result, ◌≢◌}
+use Rattle.std.specs.Prelude.{◌≡◌, ℕ, ◌<◌, ◌≤◌, List, ◌++◌, length, drop, Ok, Err, Result, ◌≢◌}
 use Rattle.std.specs.List.{AllByRecursion}
 use Rattle.store.specs.declared.window.Window.{Window}
 use Rattle.store.specs.Sound.{FirstFaulty, Sound}
@@ -9,10 +9,6 @@ use Rattle.sheet.specs.Books.{rules_of, lots_of}
 use Rattle.file.specs.declared.fault.FileFault.{FileFault}
 use Rattle.file.specs.declared.fault.FileFault.TheVariants.{ShortBytes, Sheet}
 use Rattle.file.specs.Format.{file_of}
-
--- bytes with a text written over them from a place on
-abbrev pub over : List ℕ → ℕ → List ℕ → List ℕ
-over was start text = take start was ++ (text ++ drop (start + length text) was)
 
 -- the file of a store's windows and a book's rules
 abbrev pub sheet_file : List Window → Book → List ℕ

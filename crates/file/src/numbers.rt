@@ -1,21 +1,32 @@
-// Numbers of two bytes, the low one first.
-ghost use Rattle.std.specs.Prelude.{◌≡◌, ◌+◌, ◌*◌, ◌<◌, ◌≤◌, length};
-ghost use Rattle.file.specs.Format.{two};
-ghost use Rattle.file.specs.Writes.{over};
+// Numbers of two bytes, the low one first: all that a sheet file holds, but for the letters at its end.
+ghost use Rattle.std.specs.Prelude.{◌≡◌, ◌*◌, length};
+ghost use Rattle.std.specs.List.{AllByRecursion, flat_map};
+ghost use Rattle.file.specs.Format.{two, Small};
 
-// The number that two bytes hold.
-pub(crate) fn number(low: u8, high: u8) -> u16
-    ensures { result ≡ low + 256 * high }
+// Reads a number into each word.
+pub(crate) fn read_numbers(bytes: &[u8], words: &mut [u32])
+    requires { length bytes.now ≡ 2 * length words.old }
+    ensures bytes { flat_map two words.new ≡ bytes.now }
+    ensures small { AllByRecursion Small words.new }
 {
-    u16::from(low) + 256 * u16::from(high)
+    // The rest is kept by hand: a proof knows nothing of what a zip over `iter_mut` wrote.
+    let mut rest = bytes;
+    for word in words.iter_mut() {
+        let (pair, others) = rest.split_at(2);
+        *word = u32::from(u16::from_le_bytes([pair[0], pair[1]]));
+        rest = others;
+    }
 }
 
-// Writes a number over two bytes.
-pub(crate) fn write_number(n: usize, start: usize, bytes: &mut [u8])
-    requires small { n < 65536 }
-    requires room { start + 2 ≤ length bytes.old }
-    ensures { bytes.new ≡ over bytes.old start (two n) }
+// Writes each word as a number.
+pub(crate) fn write_numbers(words: &[u32], bytes: &mut [u8])
+    requires small { AllByRecursion Small words.now }
+    requires room { length bytes.old ≡ 2 * length words.now }
+    ensures { bytes.new ≡ flat_map two words.now }
 {
-    bytes[start] = (n % 256) as u8;
-    bytes[start + 1] = (n / 256) as u8;
+    // By place, since a proof knows nothing of what a zip over `chunks_exact_mut` wrote.
+    for (place, word) in words.iter().enumerate() {
+        let pair = (*word as u16).to_le_bytes();
+        bytes[2 * place..2 * place + 2].copy_from_slice(&pair);
+    }
 }

@@ -1,16 +1,13 @@
 // Reading a sheet file: its windows become words, its rules stay the bytes that they are.
-ghost use Rattle.std.specs.Prelude.{◌≡◌, ◌+◌, ◌*◌, ◌≤◌, length, take, drop, MatchResult};
-ghost use Rattle.std.specs.List.{AllByRecursion};
-ghost use Rattle.store.specs.Pairs.{paired};
-ghost use Rattle.file.specs.Format.{lot_bytes, lots_bytes, SmallLot};
+ghost use Rattle.std.specs.Prelude.{◌≡◌, MatchResult};
 ghost use Rattle.file.specs.Reads.{Reads, Ends, lots_in, rules_in, place_in};
 ghost use Rattle.file.specs.declared.fault.FileFault.TheVariants.{NoSheetFile};
 
 use crate::fault::FileFault;
-use crate::numbers::number;
-use store::window::Window;
+use crate::numbers::read_numbers;
 
-const LOTS: usize = 256;
+// How many lots and how many rules a file may have.
+pub(crate) const LOTS: usize = 256;
 
 const RULES: usize = 32;
 
@@ -49,7 +46,7 @@ pub fn read<'a>(file: &'a [u8], words: &mut [u32]) -> Result<Contents<'a>, FileF
     if words.len() < 2 * lots {
         return Err(FileFault::ShortWords);
     }
-    read_lots(file, lots, words);
+    read_numbers(&file[..start], &mut words[..2 * lots]);
     Ok(Contents {
         lots,
         rules,
@@ -65,37 +62,8 @@ fn find_trailer(file: &[u8]) -> Result<Trailer, FileFault>
         return Err(FileFault::NoSheetFile);
     };
     Ok(Trailer {
-        place: number(*p0, *p1),
-        lots: number(*l0, *l1),
-        rules: number(*r0, *r1),
+        place: u16::from_le_bytes([*p0, *p1]),
+        lots: u16::from_le_bytes([*l0, *l1]),
+        rules: u16::from_le_bytes([*r0, *r1]),
     })
-}
-
-fn read_lots(file: &[u8], lots: usize, words: &mut [u32])
-    requires there { 4 * lots ≤ length file.now }
-    requires room { 2 * lots ≤ length words.old }
-    ensures lots { lots_bytes (paired (take (2 * lots) words.new)) ≡ take (4 * lots) file.now }
-    ensures small { AllByRecursion SmallLot (paired (take (2 * lots) words.new)) }
-    ensures rest { drop (2 * lots) words.new ≡ drop (2 * lots) words.old }
-{
-    for lot in 0..lots {
-        let window = lot_at(file, lot);
-        words[2 * lot] = window.low;
-        words[2 * lot + 1] = window.high;
-    }
-}
-
-// The window of a lot, from its four bytes.
-fn lot_at(file: &[u8], lot: usize) -> Window
-    requires { 4 * lot + 4 ≤ length file.now }
-    ensures bytes { lot_bytes result ≡ take 4 (drop (4 * lot) file.now) }
-    ensures small { SmallLot result }
-{
-    let [low0, low1, high0, high1, ..] = &file[4 * lot..] else {
-        return Window { low: 0, high: 0 };
-    };
-    Window {
-        low: u32::from(number(*low0, *low1)),
-        high: u32::from(number(*high0, *high1)),
-    }
 }

@@ -1,8 +1,8 @@
 -- One text after another: the second is written to the rest of the bytes, which is lent from where the first ends.
-use Rattle.std.proofs.Common.{◌≡◌, ℕ, ◌+◌, ◌-◌, List, [], ◌∷◌, ◌++◌, length, take, drop, codes, decimal, sym, ap, ◌∙◌, arith}
+use Rattle.std.proofs.Common.{◌≡◌, ℕ, ◌-◌, List, [], ◌++◌, length, take, drop, sym, ap, ◌∙◌, arith}
 use borrow.Rule.Slice.PartMut.{post_of, put_mid}
 use Rattle.std.proofs.lemmas.List.{append_assoc, append-nil, drop_all, drop_at, drop-drop, length-append, length-drop, take_at, take_rest}
-use Rattle.listing.specs.Text.{count_line, entry, over, pair_line}
+use Rattle.listing.specs.Text.{over}
 
 -- `mid` is what stands after the first text, `rest` what the lent rest of it holds after the second
 pub over_then :
@@ -19,19 +19,5 @@ over_then a b was mid rest end long first second =
     ap (λ xs. xs ++ (rest ++ post_of end (length mid - end) mid)) before ∙ ap (λ xs. a ++ (rest ++ xs)) none
     ∙ ap (λ xs. a ++ xs) (append-nil rest ∙ put) ∙ sym (append_assoc a b (drop (length (a ++ b)) was))
 
--- the same where the first text is a front of the list of bytes
-pub over_front : (text was is : List ℕ) (k : ℕ) → k ≡ length text → is ≡ text → is ++ post_of 0 k was ≡ over text was
-over_front text was is k long e = ap (λ xs. xs ++ drop k was) e ∙ ap (λ n. text ++ drop n was) long
-
 pub lent_length : (xs : List ℕ) (end : ℕ) → length (take (length xs - end) (drop end xs)) ≡ length xs - end
 lent_length xs end = ap length (take_rest xs end) ∙ length-drop end xs
-
-pub entry_length : (word : List ℕ) (n : ℕ) → length (entry word n) ≡ length word + length (decimal n)
-entry_length word n = length-append word (decimal n)
-
-pub pair_length : (word : List ℕ) (m : ℕ) (other : List ℕ) (n : ℕ) → length (pair_line word m other n) ≡ length word + length (decimal m) + (length other + length (decimal n)) + 1
-pair_length word m other n =
-    omega (arith, length-append (entry word m ++ entry other n) (10 ∷ []), length-append (entry word m) (entry other n), entry_length word m, entry_length other n)
-
-pub count_length : (count : ℕ) → length (count_line count) ≡ length (decimal count) + 6
-count_length count = omega (arith, length-append (entry (codes "days ") count) (10 ∷ []), entry_length (codes "days ") count)

@@ -8,3 +8,4 @@ pub mod list;
 mod measure;
 pub mod number;
 pub mod refusal;
+mod text;

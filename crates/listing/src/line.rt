@@ -3,15 +3,7 @@ ghost use Rattle.std.specs.Prelude.{◌≡◌, ◌+◌, ◌≤◌, length, decim
 ghost use Rattle.listing.specs.Text.{count_line, entry, lot_line, over, pair_line};
 
 use crate::number::write_number;
-
-fn write_text(text: &[u8], out: &mut [u8]) -> usize
-    requires { length text.now ≤ length out.old }
-    ensures long { result ≡ length text.now }
-    ensures written { out.new ≡ over text.now out.old }
-{
-    out[0..text.len()].copy_from_slice(text);
-    text.len()
-}
+use crate::text::write_text;
 
 // A word and a number.
 fn write_entry(word: &[u8], n: usize, out: &mut [u8]) -> usize

@@ -29,15 +29,12 @@ use Rattle.plan.specs.Ready.{Unready, short_work, too_many_lots, mismatch, fault
 use Rattle.reply.specs.Files as files
 use Rattle.reply.specs.Files.{AddsTo, PlansSheet}
 
-pub not_both : {T E : Type 0} {x : T} {y : E} → ◌≡◌ {A = Result T E} (Ok x) (Err y) → ⊥
-not_both e = let z : ◌≡◌ {A = ℕ} 0 1 = cc in omega arith
-
 -- an accepted rule leaves slip and book in agreement
 adds_agree : (q : Row) (slip : Draft) (was : Book) (n : ℕ) (slip' : Draft) (is : Book) → Adds q.first q.length q.floor q.ceiling slip was (Ok n) slip' is → Agree slip'.lots slip'.rules is × (slip'.lots ≡ slip.lots)
-adds_agree q slip was n slip' is (drafts.Adds.mismatch _ e _ _) = absurd (not_both e)
-adds_agree q slip was n slip' is (drafts.Adds.no_such_stretch _ _ e _ _) = absurd (not_both e)
-adds_agree q slip was n slip' is (drafts.Adds.no_such_count _ _ _ e _ _) = absurd (not_both e)
-adds_agree q slip was n slip' is (drafts.Adds.book_full _ _ _ _ e _ _) = absurd (not_both e)
+adds_agree q slip was n slip' is (drafts.Adds.mismatch _ e _ _) = cc
+adds_agree q slip was n slip' is (drafts.Adds.no_such_stretch _ _ e _ _) = cc
+adds_agree q slip was n slip' is (drafts.Adds.no_such_count _ _ _ e _ _) = cc
+adds_agree q slip was n slip' is (drafts.Adds.book_full _ _ _ _ e _ _) = cc
 adds_agree q slip was n slip' is (drafts.Adds.added g _ _ _ _ m l e) =
     let lots : slip'.lots ≡ slip.lots = ap (λ x. x.lots) m in
     let rules : slip'.rules ≡ slip.rules + 1 = ap (λ x. x.rules) m in
@@ -60,12 +57,12 @@ module _ (ws : List Window) (qs : List Row) (was : List ℕ) (few : length ws �
   start_refused e (drafts.Starts.faulty_window lot _ f r _) =
       let same : e ≡ sheet.FaultyWindow lot = cc in
       files.PlansSheet.faulty_window lot f (ap (λ x. Err (Sheet x)) same) refl
-  start_refused e (drafts.Starts.started _ _ r _ _) = absurd (not_both (sym r))
+  start_refused e (drafts.Starts.started _ _ r _ _) = cc
 
   -- what a start gives that is not
   is_started : (slip : Draft) → Starts ws fresh (Ok slip) empty → AllByRecursion Sound ws × (slip ≡ draft (length ws) 0) × (lots_of empty ≡ length ws) × (rules_of empty ≡ [])
-  is_started slip (drafts.Starts.too_many_lots _ r _) = absurd (not_both r)
-  is_started slip (drafts.Starts.faulty_window _ _ _ r _) = absurd (not_both r)
+  is_started slip (drafts.Starts.too_many_lots _ r _) = cc
+  is_started slip (drafts.Starts.faulty_window _ _ _ r _) = cc
   is_started slip (drafts.Starts.started _ sound r lots none) = let same : slip ≡ draft (length ws) 0 = cc in (sound, same, lots, none)
 
   module _ (slip slip' : Draft) (book : Book) (start : Starts ws fresh (Ok slip) empty) where
@@ -76,7 +73,7 @@ module _ (ws : List Window) (qs : List Row) (was : List ℕ) (few : length ws �
 
     -- a rule is refused
     refused_with : (e : FileFault) (s : Result (Unit {0}) SheetFault) → AddsAll qs slip empty s slip' book → Err e ≡ told s → PlansSheet ws qs was (Err e) was
-    refused_with e (Ok done) a t = absurd (not_both (sym t))
+    refused_with e (Ok done) a t = cc
     refused_with e (Err why) a t =
         let same : e ≡ Sheet why = cc in
         files.PlansSheet.rule_refused why (is_started slip start).0 (adds_to (Err why) a) (ap Err same) refl
@@ -87,8 +84,8 @@ module _ (ws : List Window) (qs : List Row) (was : List ℕ) (few : length ws �
     -- the rules are accepted: the book has just them, and agrees with the slip and the store
     accepted_with : (s : Result (Unit {0}) SheetFault) → AddsAll qs slip empty s slip' book → Ok tt ≡ told s
         → AddsTo (length ws) qs (Ok tt) × (rules_of book ≡ qs) × Agree slip'.lots slip'.rules book × (slip'.lots ≡ length ws)
-    accepted_with (Err why) a t = absurd (not_both t)
-    accepted_with (Ok done) (drafts.AddsAll.refused _ _ _ _ _ _ _ _ _ r _ _) t = absurd (not_both r)
+    accepted_with (Err why) a t = cc
+    accepted_with (Ok done) (drafts.AddsAll.refused _ _ _ _ _ _ _ _ _ r _ _) t = cc
     accepted_with (Ok done) (drafts.AddsAll.all_added each r) t =
         let h = is_started slip start in
         let lots : slip.lots ≡ length ws = ap (λ x. x.lots) h.1 in
@@ -117,11 +114,11 @@ module _ (ws : List Window) (qs : List Row) (was : List ℕ) (few : length ws �
       plan_refused e is (planning.Planned.no_plan _ l n r same) =
           let s : e ≡ sheet.NoPlan = cc in
           files.PlansSheet.no_plan (is_started slip start).0 accepted.0 l (subst (NoPlan ws) accepted.1 n) (ap (λ x. Err (Sheet x)) s) same
-      plan_refused e is (planning.Planned.planned _ _ _ _ r _) = absurd (not_both (sym r))
+      plan_refused e is (planning.Planned.planned _ _ _ _ r _) = cc
 
       pub plan_made : (n : ℕ) (is : List ℕ) → Planned work closed ws book was (Ok n) is → PlansSheet ws qs was (Ok (length ws)) is
       plan_made n is (planning.Planned.refused why u _ _) = absurd (ready why u)
-      plan_made n is (planning.Planned.short_answer _ _ r _) = absurd (not_both r)
-      plan_made n is (planning.Planned.no_plan _ _ _ r _) = absurd (not_both r)
+      plan_made n is (planning.Planned.short_answer _ _ r _) = cc
+      plan_made n is (planning.Planned.no_plan _ _ _ r _) = cc
       plan_made n is (planning.Planned.planned ds _ l first _ words) =
           files.PlansSheet.planned ds (is_started slip start).0 accepted.0 l (subst (λ rs. Earliest ws rs ds) accepted.1 first) refl words

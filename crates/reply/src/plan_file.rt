@@ -7,8 +7,9 @@ ghost use Rattle.reply.specs.Files.{PlansFile, PlansSheet};
 
 use bottom::words::WordStore;
 use file::fault::FileFault;
-use file::read::{Contents, read};
+use file::read::read;
 use file::rows::add_rules;
+use page::guard::WORDS;
 use plan::planning::plan;
 use sheet::book::Book;
 use sheet::start::start;
@@ -25,12 +26,8 @@ pub fn plan_file(file: &[u8], answer: &mut [u32]) -> Result<usize, FileFault>
         return Err(FileFault::TrailerDisagrees);
     }
     let mut words = [0; 512];
-    let Contents {
-        lots,
-        rules: _,
-        rows,
-    } = read(file, &mut words)?;
-    plan_lots(&mut words[0..2 * lots], rows, answer)
+    let contents = read(file, &mut words)?;
+    plan_lots(&mut words[..2 * contents.lots], contents.rows, answer)
 }
 
 // The same from the words of the lots and the bytes of the rules.
@@ -41,15 +38,12 @@ fn plan_lots(words: &mut [u32], rows: &[u8], answer: &mut [u32]) -> Result<usize
     let house = WordStore::new(words);
     let mut book = Book::empty(0);
     let mut draft = start(&house, &mut book)?;
-    match add_rules(&mut draft, &mut book, rows) {
-        Ok(()) => {}
-        Err(fault) => {
-            draft.put_away();
-            return Err(fault);
-        }
+    if let Err(fault) = add_rules(&mut draft, &mut book, rows) {
+        draft.put_away();
+        return Err(fault);
     }
     let slip = draft.close();
-    let mut work = [0; 4096];
+    let mut work = [0; WORDS];
     let planned = plan(&slip, &house, &book, answer, &mut work);
     slip.put_away();
     planned?;

@@ -6,11 +6,13 @@ use listing::fault::ListFault;
 use listing::list::list;
 use listing::refusal::write_refusal;
 
-// How long the text is, and whether it tells a refusal.
+// What the text is, and how many bytes it has.
 #[derive(Clone, Copy, PartialEq, Eq, Debug)]
-pub struct Replied {
-    pub bytes: usize,
-    pub refused: bool,
+pub enum Replied {
+    // the list of the plan
+    Plan(usize),
+    // the line of a refusal
+    Refusal(usize),
 }
 
 // Writes the text into the first bytes of the output; where it does not fit, nothing is written.
@@ -19,19 +21,7 @@ pub fn reply(file: &[u8], out: &mut [u8]) -> Result<Replied, ListFault>
 {
     let mut days = [0; 256];
     match plan_file(file, &mut days) {
-        Ok(lots) => {
-            let bytes = list(&days[0..lots], out)?;
-            Ok(Replied {
-                bytes,
-                refused: false,
-            })
-        }
-        Err(fault) => {
-            let bytes = write_refusal(fault.number(), fault.place(), out)?;
-            Ok(Replied {
-                bytes,
-                refused: true,
-            })
-        }
+        Ok(lots) => list(&days[..lots], out).map(Replied::Plan),
+        Err(fault) => write_refusal(fault.number(), fault.place(), out).map(Replied::Refusal),
     }
 }

@@ -9,6 +9,6 @@ returns c =
     let n = c.from-lots.result in
     let m = c.from-rules.result in
     let same : 4 * n + 8 * m - 4 * n ≡ 8 * m = omega arith in
-    read_held file c.args.words.now _ (λ i. omega (arith, c.type_inv.file i)) t.0 (omega arith, omega arith, omega arith, omega arith)
-    _ n m (c.from-lots.ensures ∙ t.2) (c.from-rules.ensures ∙ t.3) (omega arith) c.read_lots.ensures.lots c.read_lots.ensures.small c.read_lots.ensures.rest refl refl
+    read_held file c.args.words.now c.read_numbers.new.words (λ i. omega (arith, c.type_inv.file i)) t.0 (omega arith, omega arith, omega arith, omega arith)
+    _ n m (c.from-lots.ensures ∙ t.2) (c.from-rules.ensures ∙ t.3) (omega arith) c.read_numbers.ensures.bytes c.read_numbers.ensures.small refl refl
     (ap (λ k. take k (drop (4 * n) file)) same)

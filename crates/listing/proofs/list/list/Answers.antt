@@ -2,17 +2,13 @@ use Rattle.std.proofs.Common.{◌≡◌, ◌+◌, ◌++◌, length, Ok, sym, ref
 use Rattle.listing.specs.Lists.{listed, short_bytes}
 use Rattle.listing.specs.Text.{count_line, lines_from, list_of, over}
 use Rattle.listing.proofs.Lines.{list_is, list_length}
-use Rattle.listing.proofs.Over.{count_length, lent_length, over_then}
+use Rattle.listing.proofs.Over.{over_then}
 use Rattle.listing.proofs.list.list.Goals as goal
 
 pub returns-then-out-list_length : goal.returns-then-out-list_length
 returns-then-out-list_length c =
     let same = ap (λ count. length (count_line count)) c.different_days-count.ensures.value in
     short_bytes (omega arith) (omega (arith, c.list_length.ensures, list_length c.args.days.now)) refl refl
-
-pub write_count-requires : goal.write_count-requires
-write_count-requires c =
-    omega (arith, c.list_length.ensures, count_length c.different_days-count.result, c.write_lots-end.ensures.long, lent_length c.write_lots-end.new.out c.write_lots-end.result)
 
 pub returns : goal.returns
 returns c =

@@ -1,5 +1,4 @@
 use Rattle.std.proofs.Common.{length, get_or, take, sym, ap, ◌∙◌, arith}
-use Rattle.std.proofs.lemmas.List.{take_all}
 use Rattle.listing.specs.Text.{lines_from, lot_line, over}
 use Rattle.listing.proofs.Lines.{lines_more, lines_more_length, lines_none, lines_room}
 use Rattle.listing.proofs.Over.{lent_length, over_then}
@@ -12,9 +11,6 @@ pub write_lot-end-requires : goal.write_lot-end-requires
 write_lot-end-requires c =
     omega (arith, c.requires, c.loop-lot.invariant.0, lines_room c.args.days.now c.loop-lot.lot (omega arith), lent_length c.loop-lot.out c.loop-lot.end)
 
-pub overflow_add-end : goal.overflow_add-end
-overflow_add-end c = omega (arith, c.requires, c.loop-lot.invariant.0, c.write_lot-end.ensures.long, lines_room c.args.days.now c.loop-lot.lot (omega arith))
-
 pub loop-lot-preserved : goal.loop-lot-preserved
 loop-lot-preserved c =
     let days = c.args.days.now in
@@ -26,8 +22,3 @@ loop-lot-preserved c =
           ∙ ap (λ text. over text c.args.out.now) (sym (lines_more days lot (omega arith))),
       omega (arith, c.loop-lot.invariant.0, c.write_lot-end.ensures.long),
     )
-
-pub returns : goal.returns
-returns c =
-    let all = ap (lines_from 0) (take_all c.loop-lot.lot c.args.days.now (omega arith)) in
-    record { long = c.loop-lot.invariant.0 ∙ ap length all; written = c.loop-lot.invariant.1 ∙ ap (λ text. over text c.args.out.now) all }

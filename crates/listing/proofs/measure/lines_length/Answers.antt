@@ -1,6 +1,4 @@
-use Rattle.std.proofs.Common.{length, sym, ap, ◌∙◌, arith}
-use Rattle.std.proofs.lemmas.List.{take_all}
-use Rattle.listing.specs.Text.{lines_from}
+use Rattle.std.proofs.Common.{length, sym, ap, arith}
 use Rattle.listing.proofs.Lines.{lines_more_length, lines_none}
 use Rattle.listing.proofs.measure.lines_length.Goals as goal
 
@@ -9,10 +7,3 @@ loop-lot-init c = (sym (ap length (lines_none 0)), omega arith)
 
 pub loop-lot-preserved : goal.loop-lot-preserved
 loop-lot-preserved c = (omega (arith, c.loop-lot.invariant.0, c.lot_length-total.ensures.exact, lines_more_length c.args.days.now c.loop-lot.lot (omega arith)), omega arith)
-
-pub returns : goal.returns
-returns c =
-    record {
-      exact = c.loop-lot.invariant.0 ∙ ap (λ ds. length (lines_from 0 ds)) (take_all c.loop-lot.lot c.args.days.now (omega arith));
-      few = omega arith;
-    }
