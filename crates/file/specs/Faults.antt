@@ -1,5 +1,5 @@
 -- The number by which a house knows a refusal, and the lot or the rule that it names: 0 where it names none.
-use Rattle.std.specs.Prelude.{ℕ}
+use Rattle.std.specs.Prelude.{ℕ, List, ◌++◌, codes, decimal}
 use Rattle.sheet.specs.Faults as sheet
 use Rattle.file.specs.declared.fault.FileFault.{FileFault}
 use Rattle.file.specs.declared.fault.FileFault.TheVariants.{NoSheetFile, TrailerDisagrees, ShortWords, ShortBytes, Sheet}
@@ -17,3 +17,7 @@ place_of TrailerDisagrees = 0
 place_of ShortWords = 0
 place_of ShortBytes = 0
 place_of (Sheet fault) = sheet.place_of fault
+
+-- `refused R place P`
+abbrev pub fault_text : FileFault → List ℕ
+fault_text fault = codes "refused " ++ decimal (number_of fault) ++ codes " place " ++ decimal (place_of fault)

@@ -1,9 +1,12 @@
 // Why a sheet file is not read or not written. A refusal changes nothing.
-ghost use Rattle.std.specs.Prelude.{◌≡◌};
-ghost use Rattle.file.specs.Faults.{number_of, place_of};
+ghost use Rattle.std.specs.Prelude.{◌≡◌, Some};
+ghost use Rattle.file.specs.Faults.{fault_text, number_of, place_of};
+ghost use Rattle.sheet.specs.Faults.{of_season};
 ghost use Rattle.file.specs.declared.fault.FileFault.TheVariants.{Sheet};
 
 use sheet::fault::SheetFault;
+use std::fmt;
+use store::season::SeasonFault;
 
 #[derive(Clone, Copy, PartialEq, Eq, Debug)]
 pub enum FileFault {
@@ -41,6 +44,23 @@ impl FileFault {
             FileFault::Sheet(fault) => fault.place(),
             _ => 0,
         }
+    }
+}
+
+// The number, and the lot or the rule that is named.
+impl fmt::Display for FileFault {
+    ghost output = { λ fault. Some (fault_text fault) };
+
+    fn fmt<W: fmt::Write>(&self, f: &mut fmt::Formatter<W>) -> fmt::Result {
+        write!(f, "refused {} place {}", self.number(), self.place())
+    }
+}
+
+impl From<SeasonFault> for FileFault {
+    ghost from_gives = { λ value r. r ≡ Sheet (of_season value) };
+
+    fn from(value: SeasonFault) -> FileFault {
+        FileFault::Sheet(SheetFault::from(value))
     }
 }
 

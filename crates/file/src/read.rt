@@ -5,11 +5,8 @@ ghost use Rattle.file.specs.declared.fault.FileFault.TheVariants.{NoSheetFile};
 
 use crate::fault::FileFault;
 use crate::numbers::read_numbers;
-
-// How many lots and how many rules a file may have.
-pub(crate) const LOTS: usize = 256;
-
-const RULES: usize = 32;
+use rules::row::RULES;
+use store::limits::LOTS;
 
 // What a sheet file has: how many lots, how many rules, and the part of the file that holds the rules.
 #[derive(Clone, Copy)]

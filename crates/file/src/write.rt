@@ -6,12 +6,14 @@ ghost use Rattle.file.specs.Writes.{Writes};
 
 use crate::fault::FileFault;
 use crate::numbers::write_numbers;
-use crate::read::LOTS;
-use page::windows::{copy_windows, first_faulty};
+use page::windows::take_windows;
 use rules::row::Row;
 use sheet::book::Book;
 use sheet::fault::SheetFault;
+use store::limits::LOTS;
+use store::season::Season;
 use store::store::WindowStore;
+use store::window::Window;
 
 // Writes the file into the first bytes, and answers how many they are.
 pub fn write<S: WindowStore>(book: &Book, store: &S, bytes: &mut [u8]) -> Result<usize, FileFault>
@@ -25,10 +27,10 @@ pub fn write<S: WindowStore>(book: &Book, store: &S, bytes: &mut [u8]) -> Result
         return Err(FileFault::Sheet(SheetFault::Mismatch));
     }
     let mut words = [0; 2 * LOTS];
-    copy_windows(store, &mut words);
-    if let Some(lot) = first_faulty(&words, lots) {
-        return Err(FileFault::Sheet(SheetFault::FaultyWindow(lot)));
-    }
+    let mut room = [Window::default(); LOTS];
+    let windows = &mut room[..lots];
+    take_windows(store, &mut words, windows);
+    Season::new(windows)?;
     let rules = book.rules();
     let start = 4 * lots;
     let end = start + 8 * rules;

@@ -1,10 +1,12 @@
 // Which rules are due: those that are to be looked at, since a window of theirs moved.
 ghost use Rattle.std.specs.Prelude.{◌≡◌, ℕ, ◌<◌, true, false, length, MatchOption, slice_index_or};
 
+use rules::row::RULES;
+
 // A flag for each rule that a book has room for.
 #[derive(Clone, Copy)]
 pub struct Due {
-    flags: [bool; 32],
+    flags: [bool; RULES],
     ghost room: { length flags ≡ 32 },
 }
 
@@ -16,14 +18,18 @@ impl Due {
     pub fn all() -> Due
         ensures { (k : ℕ) → is_due result k ≡ true }
     {
-        Due { flags: [true; 32] }
+        Due {
+            flags: [true; RULES],
+        }
     }
 
     // No rule is due.
     pub fn none() -> Due
         ensures { (k : ℕ) → k < 32 → is_due result k ≡ false }
     {
-        Due { flags: [false; 32] }
+        Due {
+            flags: [false; RULES],
+        }
     }
 
     // One more rule is due.

@@ -6,9 +6,9 @@ ghost use Rattle.store.specs.Sound.{Sound};
 ghost use Rattle.sheet.specs.Books.{lots_of};
 
 use sheet::book::Book;
+use store::limits::LOTS;
+use store::season::Season;
 use store::window::Window;
-
-const LOTS: usize = 256;
 
 // The lots of the book, which are at most 256, have sound windows. The windows past them mean nothing.
 #[derive(Clone, Copy)]
@@ -21,23 +21,20 @@ pub struct Problem {
 }
 
 impl Problem {
-    ghost use Rattle.std.specs.Prelude.{◌<◌, slice_set};
-    ghost use Rattle.narrow.specs.Problems.{windows_of};
+    ghost use Rattle.std.specs.Prelude.{◌-◌, ◌<◌, slice_set};
+    ghost use Rattle.nvalue.specs.Choices.{part};
+    ghost use Rattle.rules.specs.Cuts.{within};
+    ghost use Rattle.narrow.specs.Problems.{windows_of, rules_in};
 
     // The problem of these windows, one for each lot of the book.
-    pub fn new(windows: &[Window], book: Book) -> Problem
-        requires lots { length windows.now ≡ lots_of book }
-        requires few { length windows.now ≤ 256 }
-        requires sound { AllByRecursion Sound windows.now }
-        ensures windows { windows_of result ≡ windows.now }
+    pub fn new(season: Season, book: Book) -> Problem
+        requires { length season.windows.now ≡ lots_of book }
+        ensures windows { windows_of result ≡ season.entry.windows.now }
         ensures book { result.book ≡ book }
     {
-        let mut room = [Window { low: 0, high: 0 }; LOTS];
-        room[..windows.len()].copy_from_slice(windows);
-        Problem {
-            windows: room,
-            book,
-        }
+        let mut windows = [Window::default(); LOTS];
+        windows[..season.windows.len()].copy_from_slice(season.windows);
+        Problem { windows, book }
     }
 
     // The window of each lot.
@@ -45,6 +42,19 @@ impl Problem {
         ensures { result.now ≡ windows_of self.now }
     {
         &self.windows[..self.book.lots()]
+    }
+
+    // The problem of the lots from `start` on and before `end`, by the rules that lie there.
+    pub fn cut(&self, start: usize, end: usize) -> Problem
+        requires ordered { start ≤ end }
+        requires there { end ≤ length (windows_of self.now) }
+        ensures windows { windows_of result ≡ part (windows_of self.now) start (end - start) }
+        ensures rules { rules_in result ≡ within start end (rules_in self.now) }
+    {
+        let season = Season {
+            windows: &self.windows()[start..end],
+        };
+        Problem::new(season, self.book.cut(start, end))
     }
 
     // Gives a lot another window.

@@ -59,7 +59,8 @@ fn read_windows(page: &[u32], windows: &mut [Window])
 pub fn take_windows<S: WindowStore>(store: &S, page: &mut [u32], windows: &mut [Window])
     requires each { length windows.old ≡ length (S.WindowStore.windows store.now) }
     requires room { 2 * length windows.old ≤ length page.old }
-    ensures { windows.new ≡ S.WindowStore.windows store.now }
+    ensures taken { windows.new ≡ S.WindowStore.windows store.now }
+    ensures copied { take (length windows.old) (paired page.new) ≡ S.WindowStore.windows store.now }
 {
     copy_windows(store, page);
     read_windows(page, windows);

@@ -3,6 +3,9 @@ ghost use Rattle.std.specs.Prelude.{◌≡◌};
 
 use nvalue::stretch::Stretch;
 
+// The most rules that a sheet may have.
+pub const RULES: usize = 32;
+
 // The stretch of `length` lots from the lot `first` on takes from `floor` to `ceiling` different days.
 #[derive(Clone, Copy, PartialEq, Eq, Debug, Default)]
 pub struct Row {

@@ -78,8 +78,7 @@ fn plan_part(
     ensures found { MatchResult result (λ _. Earliest (part (windows_of problem.now) start (end - start)) (within start end (rules_in problem.now)) (part days.new start (end - start))) (λ _. NoPlan (part (windows_of problem.now) start (end - start)) (within start end (rules_in problem.now))) }
     ensures rest { drop end days.new ≡ drop end days.old }
 {
-    let rules = problem.book.cut(start, end);
-    let mut group = Problem::new(&problem.windows()[start..end], rules);
+    let mut group = problem.cut(start, end);
     hunt(&mut group, Due::all())?;
     write_lows(group.windows(), &mut days[start..end]);
     Ok(())

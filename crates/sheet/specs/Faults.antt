@@ -1,7 +1,9 @@
 -- The number by which a house knows a refusal, and the lot or the rule that it names: 0 where it names none.
-use Rattle.std.specs.Prelude.{ℕ, Ok, Err, Result}
+use Rattle.std.specs.Prelude.{ℕ, List, ◌++◌, codes, decimal, Ok, Err, Result}
 use Rattle.store.specs.declared.fault.StoreFault.{StoreFault}
 use Rattle.store.specs.declared.fault.StoreFault.TheVariants.{NoSuchLot, WouldEmpty}
+use Rattle.store.specs.declared.season.SeasonFault.{SeasonFault}
+use Rattle.store.specs.declared.season.SeasonFault.TheVariants.{TooManyLots as TooMany, FaultyWindow as Faulty}
 use Rattle.sheet.specs.declared.fault.SheetFault.{SheetFault}
 use Rattle.sheet.specs.declared.fault.StoreRefusal.{StoreRefusal}
 use Rattle.sheet.specs.declared.fault.SheetFault.TheVariants.{Store, NoSuchDay, NoSuchStretch, NoSuchCount, NoSuchRule, ShortWork, ShortAnswer, TooManyLots, FaultyWindow, BookFull, NoCountLeft, NoFirmWindows, NoPlan, Mismatch}
@@ -46,3 +48,12 @@ place_of (NoCountLeft rule) = rule
 place_of NoFirmWindows = 0
 place_of NoPlan = 0
 place_of Mismatch = 0
+
+-- `refused R place P`
+abbrev pub fault_text : SheetFault → List ℕ
+fault_text fault = codes "refused " ++ decimal (number_of fault) ++ codes " place " ++ decimal (place_of fault)
+
+-- windows that make no season are refused for the same reason
+abbrev pub of_season : SeasonFault → SheetFault
+of_season TooMany = TooManyLots
+of_season (Faulty lot) = FaultyWindow lot

@@ -10,9 +10,8 @@ use crate::fault::{SheetFault, about_lot};
 use crate::slip::Closed;
 use nvalue::count_window::CountWindow;
 use store::fault::StoreFault;
+use store::limits::LAST_DAY;
 use store::store::WindowStore;
-
-const LAST_DAY: u32 = 9999;
 
 // A lot is to be extracted on a day or later.
 pub fn not_before<S: WindowStore>(

@@ -1,9 +1,11 @@
 // Why a call on a sheet is refused. A refusal changes nothing.
-ghost use Rattle.std.specs.Prelude.{◌≡◌};
-ghost use Rattle.sheet.specs.Faults.{number_of, number_of_store, place_of, at_lot};
+ghost use Rattle.std.specs.Prelude.{◌≡◌, Some};
+ghost use Rattle.sheet.specs.Faults.{fault_text, number_of, number_of_store, of_season, place_of, at_lot};
 ghost use Rattle.sheet.specs.declared.fault.SheetFault.TheVariants.{Store};
 
+use std::fmt;
 use store::fault::StoreFault;
+use store::season::SeasonFault;
 
 // The store's own refusal, whole, with the lot that was named.
 #[derive(Clone, Copy, PartialEq, Eq, Debug)]
@@ -90,6 +92,15 @@ fn store_number(fault: StoreFault) -> u32
     }
 }
 
+// The number, and the lot or the rule that is named.
+impl fmt::Display for SheetFault {
+    ghost output = { λ fault. Some (fault_text fault) };
+
+    fn fmt<W: fmt::Write>(&self, f: &mut fmt::Formatter<W>) -> fmt::Result {
+        write!(f, "refused {} place {}", self.number(), self.place())
+    }
+}
+
 // What a store answered about a lot: a refusal names the lot.
 pub fn about_lot(lot: usize, answer: Result<(), StoreFault>) -> Result<(), StoreRefusal>
     ensures { result ≡ at_lot lot answer }
@@ -102,5 +113,16 @@ impl From<StoreRefusal> for SheetFault {
 
     fn from(value: StoreRefusal) -> SheetFault {
         SheetFault::Store(value)
+    }
+}
+
+impl From<SeasonFault> for SheetFault {
+    ghost from_gives = { λ value r. r ≡ of_season value };
+
+    fn from(value: SeasonFault) -> SheetFault {
+        match value {
+            SeasonFault::TooManyLots => SheetFault::TooManyLots,
+            SeasonFault::FaultyWindow(lot) => SheetFault::FaultyWindow(lot),
+        }
     }
 }

@@ -8,13 +8,12 @@ use crate::rule::Rule;
 use crate::slip::Draft;
 use nvalue::count_window::CountWindow;
 use nvalue::stretch::Stretch;
-use page::windows::{copy_windows, first_faulty};
-use rules::row::Row;
+use page::windows::take_windows;
+use rules::row::{RULES, Row};
+use store::limits::LOTS;
+use store::season::Season;
 use store::store::WindowStore;
-
-const LOTS: usize = 256;
-
-const RULES: usize = 32;
+use store::window::Window;
 
 const GREATEST_CEILING: u32 = 256;
 
@@ -26,11 +25,11 @@ pub fn start<S: WindowStore>(store: &S, book: &mut Book) -> Result<Draft, SheetF
     if lots > LOTS {
         return Err(SheetFault::TooManyLots);
     }
-    let mut copied = [0; 2 * LOTS];
-    copy_windows(store, &mut copied);
-    if let Some(lot) = first_faulty(&copied, lots) {
-        return Err(SheetFault::FaultyWindow(lot));
-    }
+    let mut words = [0; 2 * LOTS];
+    let mut room = [Window::default(); LOTS];
+    let windows = &mut room[..lots];
+    take_windows(store, &mut words, windows);
+    Season::new(windows)?;
     *book = Book::empty(lots);
     Ok(Draft { lots, rules: 0 })
 }

@@ -8,7 +8,7 @@ use super::Book;
 use crate::fault::SheetFault;
 use crate::rule::Rule;
 use nvalue::count_window::CountWindow;
-use rules::row::Row;
+use rules::row::{RULES, Row};
 
 impl Book {
     // A book for this many lots, with no rules.
@@ -19,7 +19,7 @@ impl Book {
         Book {
             lots,
             used: 0,
-            rows: [Row::default(); 32],
+            rows: [Row::default(); RULES],
         }
     }
 

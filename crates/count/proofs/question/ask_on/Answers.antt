@@ -12,7 +12,7 @@ returns-in_err-new-clause-asked g c =
     rw (e.1, e.2) (
       subst
           (λ ws. Refuses work ws c.args.stretch.first c.args.stretch.length (length c.args.answer.now) (of_season c.in_err-new.field-0.0))
-          c.take_windows.ensures
+          c.take_windows.ensures.taken
           (unfit_refuses work _ _ _ _ _ enough c.in_err-new.ensures),
       refl,
     )

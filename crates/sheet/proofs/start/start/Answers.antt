@@ -1,10 +1,13 @@
-use Rattle.std.proofs.Common.{take, refl, ap, ◌∙◌, subst, arith}
-use Rattle.store.specs.Pairs.{paired}
-use Rattle.store.specs.Sound.{FirstFaulty}
-use Rattle.sheet.specs.Drafts.{faulty_window}
+use Rattle.std.proofs.Common.{Err, subst}
+use Rattle.std.proofs.lemmas.Result.{err_from_is_err_and}
+use Rattle.sheet.specs.Drafts.{Starts}
+use Rattle.sheet.specs.Faults.{of_season}
+use Rattle.sheet.proofs.Unfits.{unfit_starts}
 use Rattle.sheet.proofs.start.start.Goals as goal
 
-pub returns-in-Some : goal.returns-in-Some
-returns-in-Some g c =
-    let same = ap (λ n. take n (paired c.copy_windows.new.page)) c.lots-lots.ensures ∙ c.copy_windows.ensures in
-    faulty_window c.in-Some.lot (omega (arith, c.lots-lots.ensures)) (subst (λ ws. FirstFaulty ws c.in-Some.lot) same c.in-Some.ensures) refl refl
+pub returns-in_err-new : goal.returns-in_err-new
+returns-in_err-new g c =
+    let e = err_from_is_err_and c.from_residual.result c.from_residual.ensures.1 in
+    rw (e.1, e.2) (
+    subst (λ ws. Starts ws c.args.book.now (Err (of_season c.in_err-new.field-0.0)) c.args.book.now) c.take_windows.ensures.taken (unfit_starts _ _ _ c.in_err-new.ensures)
+    )
