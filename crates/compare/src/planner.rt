@@ -4,6 +4,7 @@ use bottom::words::WordStore;
 use nvalue::stretch::Stretch;
 use plan::planning::plan;
 use plan::settle::settle;
+use rules::row::Row;
 use sheet::book::Book;
 use sheet::slip::Closed;
 use sheet::start::{add_rule, start};
