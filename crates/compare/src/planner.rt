@@ -3,6 +3,7 @@ use crate::small::Small;
 use bottom::words::WordStore;
 use plan::planning::plan;
 use plan::settle::settle;
+use rules::row::Row;
 use sheet::book::Book;
 use sheet::fault::SheetFault;
 use sheet::slip::Closed;
