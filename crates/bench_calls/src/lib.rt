@@ -31,10 +31,7 @@ pub extern "C" fn bench_fewest(
         first: 0,
         length: lots,
     };
-    match fewest(&WordStore::new(words), all, answer, work) {
-        Ok(count) => count,
-        Err(_) => 0,
-    }
+    fewest(&WordStore::new(words), all, answer, work).unwrap_or(0)
 }
 
 // The most days of the first `lots` lots, 0 where the question is refused.
@@ -51,10 +48,7 @@ pub extern "C" fn bench_most(
         first: 0,
         length: lots,
     };
-    match most(&WordStore::new(words), all, answer, work) {
-        Ok(shown) => shown.count,
-        Err(_) => 0,
-    }
+    most(&WordStore::new(words), all, answer, work).map_or(0, |shown| shown.count)
 }
 
 // Narrows windows to the tightest for a count window, and gives the new ceiling; 0 where no choice is left or the question is refused.
@@ -65,11 +59,8 @@ pub extern "C" fn bench_tighten(windows: &mut [Window], floor: u32, ceiling: u32
     let Some(count) = CountWindow::new(floor, ceiling) else {
         return 0;
     };
-    let Ok(answer) = tighten(windows, count) else {
-        return 0;
-    };
-    match answer {
-        Some(tight) => tight.ceiling(),
-        None => 0,
+    match tighten(windows, count) {
+        Ok(Some(tight)) => tight.ceiling(),
+        _ => 0,
     }
 }

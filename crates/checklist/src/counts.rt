@@ -15,10 +15,7 @@ pub fn in_days(rt: &HostRuntime, words: &mut [u32]) -> io::Result<()> {
     ask(rt, &WordStore::new(words))
 }
 
-pub fn in_weeks(rt: &HostRuntime, words: &mut [u32]) -> io::Result<()> {
-    let Ok(week) = PeriodLength::new(7) else {
-        return println!(rt; "No such period");
-    };
+pub fn in_weeks(rt: &HostRuntime, words: &mut [u32], week: PeriodLength) -> io::Result<()> {
     println!(rt; "The same in weeks")?;
     ask(rt, &Period::new(WordStore::new(words), week))
 }
@@ -50,10 +47,8 @@ fn ask<S: WindowStore>(rt: &HostRuntime, house: &S) -> io::Result<()> {
 }
 
 fn show_choice(rt: &HostRuntime, answer: &[u32]) -> io::Result<()> {
-    for lot in 0..LOTS {
-        if let Some(day) = answer.get(lot) {
-            println!(rt; "    lot {lot} on {day}")?;
-        }
+    for (lot, day) in answer.iter().take(LOTS).enumerate() {
+        println!(rt; "    lot {lot} on {day}")?;
     }
     Ok(())
 }

@@ -6,10 +6,9 @@ use calendar::period::{Period, PeriodLength};
 use std::io;
 use store::fault::StoreFault;
 use store::store::{WindowStore, read_window};
+use store::window::Window;
 
 const DISPATCH: u32 = 14;
-
-const WEEK: u32 = 7;
 
 // In days of the season: a later first day, a first day pushed past the last, a lot that is not there.
 pub fn season(rt: &HostRuntime, words: &mut [u32]) -> io::Result<()> {
@@ -39,11 +38,9 @@ pub fn before_dispatch(rt: &HostRuntime, words: &mut [u32]) -> io::Result<()> {
 }
 
 // In weeks, where an end moves to the edge of its week below.
-pub fn in_weeks(rt: &HostRuntime, words: &mut [u32]) -> io::Result<()> {
-    let Ok(week) = PeriodLength::new(WEEK) else {
-        return println!(rt; "No such period");
-    };
-    println!(rt; "The same house in weeks of {WEEK} days")?;
+pub fn in_weeks(rt: &HostRuntime, words: &mut [u32], week: PeriodLength) -> io::Result<()> {
+    let days = week.days();
+    println!(rt; "The same house in weeks of {days} days")?;
     let mut house = Period::new(WordStore::new(words), week);
     show(rt, &house)?;
     println!(rt; "Lot 1 is to start in week 1 or later")?;
@@ -56,10 +53,11 @@ pub fn in_weeks(rt: &HostRuntime, words: &mut [u32]) -> io::Result<()> {
 }
 
 // One calendar over the other: any pile of layers is a store.
-pub fn weeks_before_dispatch(rt: &HostRuntime, words: &mut [u32]) -> io::Result<()> {
-    let Ok(week) = PeriodLength::new(WEEK) else {
-        return println!(rt; "No such period");
-    };
+pub fn weeks_before_dispatch(
+    rt: &HostRuntime,
+    words: &mut [u32],
+    week: PeriodLength,
+) -> io::Result<()> {
     println!(rt; "The same house in weeks before dispatch")?;
     let mut house = Period::new(Dispatch::new(WordStore::new(words), DISPATCH), week);
     show(rt, &house)?;
@@ -95,9 +93,7 @@ pub fn masked(rt: &HostRuntime, masks: &mut [u64]) -> io::Result<()> {
 
 fn show<S: WindowStore>(rt: &HostRuntime, house: &S) -> io::Result<()> {
     for lot in 0..house.lots() {
-        if let Some(w) = read_window(house, lot) {
-            let low = w.low;
-            let high = w.high;
+        if let Some(Window { low, high }) = read_window(house, lot) {
             println!(rt; "  lot {lot}: {low} to {high}")?;
         }
     }

@@ -3,13 +3,13 @@ use crate::told::{refused, show_days, show_outcome, show_rules, show_windows};
 use bottom::words::WordStore;
 use calendar::dispatch::Dispatch;
 use calendar::period::{Period, PeriodLength};
-use nvalue::stretch::Stretch;
 use plan::calls::Call;
 use plan::run::make_calls;
+use rules::row::Row;
 use sheet::book::Book;
 use sheet::fault::SheetFault;
 use sheet::slip::Closed;
-use sheet::start::{add_rule, start};
+use sheet::start::{add_rows, start};
 use std::alloc::AllocError;
 use std::io;
 use store::store::{WindowStore, read_window};
@@ -17,6 +17,11 @@ use store::store::{WindowStore, read_window};
 const EARLY: usize = 4;
 
 const LOTS: usize = 9;
+
+// low and high of each lot in turn
+const WORDS: [u32; 2 * LOTS] = [
+    1, 3, 5, 7, 9, 11, 13, 15, 20, 25, 22, 28, 24, 29, 30, 31, 27, 33,
+];
 
 const CALLS: [Call; 5] = [
     Call::NotBefore(4, 21),
@@ -28,9 +33,7 @@ const CALLS: [Call; 5] = [
 
 // Four early lots with no limit and five late ones on at most three days, while the season uses more.
 pub fn two_groups(rt: &HostRuntime) -> io::Result<()> {
-    let mut words = [
-        1, 3, 5, 7, 9, 11, 13, 15, 20, 25, 22, 28, 24, 29, 30, 31, 27, 33,
-    ];
+    let mut words = WORDS;
     println!(rt; "Four early lots, and five late ones on at most 3 days")?;
     work_on(rt, &mut WordStore::new(&mut words), 3)?;
     println!(rt; "The early group is extracted, and its windows are deleted")?;
@@ -45,18 +48,14 @@ pub fn two_groups(rt: &HostRuntime) -> io::Result<()> {
 
 // The same season in days before dispatch on day 40.
 pub fn before_dispatch(rt: &HostRuntime) -> io::Result<()> {
-    let mut words = [
-        1, 3, 5, 7, 9, 11, 13, 15, 20, 25, 22, 28, 24, 29, 30, 31, 27, 33,
-    ];
+    let mut words = WORDS;
     println!(rt; "The same in days before dispatch, which is on day 40")?;
     work_on(rt, &mut Dispatch::new(WordStore::new(&mut words), 40), 3)
 }
 
 // And in weeks, where the late lots take no more than two.
 pub fn in_weeks(rt: &HostRuntime) -> io::Result<()> {
-    let mut words = [
-        1, 3, 5, 7, 9, 11, 13, 15, 20, 25, 22, 28, 24, 29, 30, 31, 27, 33,
-    ];
+    let mut words = WORDS;
     let Ok(week) = PeriodLength::new(7) else {
         return println!(rt; "No such period");
     };
@@ -89,8 +88,8 @@ fn work_on<S: WindowStore>(rt: &HostRuntime, house: &mut S, limit: u32) -> io::R
     println!(rt;
         "Lot 4 not before 21; lot 0 not after 0; settle; the late lots on at most 2; plan"
     )?;
-    for outcome in outcomes.iter() {
-        show_outcome(rt, *outcome)?;
+    for outcome in outcomes {
+        show_outcome(rt, outcome)?;
     }
     show_windows(rt, house)?;
     show_rules(rt, &book)?;
@@ -99,16 +98,24 @@ fn work_on<S: WindowStore>(rt: &HostRuntime, house: &mut S, limit: u32) -> io::R
 }
 
 fn closed<S: WindowStore>(house: &S, book: &mut Book, limit: u32) -> Result<Closed, SheetFault> {
-    let early = Stretch {
+    let early = Row {
         first: 0,
         length: EARLY,
+        floor: 0,
+        ceiling: 256,
     };
-    let late = Stretch {
+    let late = Row {
         first: EARLY,
         length: LOTS - EARLY,
+        floor: 0,
+        ceiling: limit,
     };
     let mut draft = start(house, book)?;
-    let _ = add_rule(&mut draft, book, early, 0, 256);
-    let _ = add_rule(&mut draft, book, late, 0, limit);
-    Ok(draft.close())
+    match add_rows(&mut draft, book, &[early, late]) {
+        Ok(()) => Ok(draft.close()),
+        Err(fault) => {
+            draft.put_away();
+            Err(fault)
+        }
+    }
 }

@@ -38,7 +38,7 @@ struct Asked {
     past: Result<usize, SheetFault>,
     added: Result<usize, SheetFault>,
     pushed: Result<(), SheetFault>,
-    lowered: bool,
+    lowered: Result<(), SheetFault>,
 }
 
 // A rule is refused, a first day is pushed past the last: every window and rule is read before and after.
@@ -63,7 +63,7 @@ pub fn two_lots(rt: &HostRuntime) -> io::Result<()> {
     println!(rt; "Every window and rule after that")?;
     show_windows(rt, &WordStore::new(&mut words))?;
     show_rules(rt, &book)?;
-    let lowered = asked.lowered;
+    let lowered = asked.lowered.is_ok();
     println!(rt; "Both lots are to take at most 3 days, as they do already: accepted is {lowered}")
 }
 
@@ -82,7 +82,7 @@ fn ask(words: &mut [u32], book: &mut Book) -> Result<Asked, SheetFault> {
     let added = add_rule(&mut draft, book, both, 0, 3);
     let slip = draft.close();
     let pushed = not_before(&slip, &mut house, book, 0, 9);
-    let lowered = at_most(&slip, book, 0, 3).is_ok();
+    let lowered = at_most(&slip, book, 0, 3);
     slip.put_away();
     Ok(Asked {
         past,

@@ -5,12 +5,11 @@ use sheet::book::Book;
 use sheet::fault::SheetFault;
 use std::io;
 use store::store::{WindowStore, read_window};
+use store::window::Window;
 
 pub fn show_windows<S: WindowStore>(rt: &HostRuntime, house: &S) -> io::Result<()> {
     for lot in 0..house.lots() {
-        if let Some(w) = read_window(house, lot) {
-            let low = w.low;
-            let high = w.high;
+        if let Some(Window { low, high }) = read_window(house, lot) {
             println!(rt; "  lot {lot}: {low} to {high}")?;
         }
     }
@@ -18,17 +17,16 @@ pub fn show_windows<S: WindowStore>(rt: &HostRuntime, house: &S) -> io::Result<(
 }
 
 pub fn show_rules(rt: &HostRuntime, book: &Book) -> io::Result<()> {
-    for number in 0..book.rules() {
-        if let Some(rule) = book.rule(number) {
-            let row = Row::from(rule);
-            let first = row.first;
-            let length = row.length;
-            let floor = row.floor;
-            let ceiling = row.ceiling;
-            println!(rt;
-                "  rule {number}: {length} lots from lot {first} on take {floor} to {ceiling} days"
-            )?;
-        }
+    for (number, row) in book.rows().iter().enumerate() {
+        let Row {
+            first,
+            length,
+            floor,
+            ceiling,
+        } = *row;
+        println!(rt;
+            "  rule {number}: {length} lots from lot {first} on take {floor} to {ceiling} days"
+        )?;
     }
     Ok(())
 }
@@ -45,9 +43,8 @@ pub fn show_outcome(rt: &HostRuntime, outcome: Outcome) -> io::Result<()> {
         Outcome::Asked(Ok(())) => println!(rt; "  accepted"),
         Outcome::Settled(Ok(())) => println!(rt; "  settled"),
         Outcome::Planned(Ok(count)) => println!(rt; "  planned, days in all: {count}"),
-        Outcome::Asked(Err(fault)) => refused(rt, fault),
-        Outcome::Settled(Err(fault)) => refused(rt, fault),
-        Outcome::Planned(Err(fault)) => refused(rt, fault),
+        Outcome::Asked(Err(fault)) | Outcome::Settled(Err(fault)) | Outcome::Planned(Err(fault)) =>
+            { refused(rt, fault) }
     }
 }
 

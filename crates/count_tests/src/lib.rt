@@ -4,6 +4,8 @@
 #[cfg(test)]
 mod counts;
 #[cfg(test)]
+mod house;
+#[cfg(test)]
 mod refusals;
 #[cfg(test)]
 mod tightest;

@@ -12,10 +12,7 @@ fn window(low: u32, high: u32) -> Window {
 // The new count window as a pair; absent where no choice is left.
 fn tightened(windows: &mut [Window], floor: u32, ceiling: u32) -> Option<(u32, u32)> {
     let count = CountWindow::new(floor, ceiling)?;
-    let Ok(answer) = tighten(windows, count) else {
-        return None;
-    };
-    let tight = answer?;
+    let tight = tighten(windows, count).ok()??;
     Some((tight.floor(), tight.ceiling()))
 }
 

@@ -26,6 +26,7 @@ pub fn add_rules(slip: &mut Draft, book: &mut Book, rows: &[u8]) -> Result<(), F
     Ok(())
 }
 
+// A loop of its own beside `read_numbers`, with the rest kept by hand for the same reason: a trait over both kinds of record is no shorter.
 fn read_rows(bytes: &[u8], rows: &mut [Row])
     requires { length bytes.now ≡ 8 * length rows.old }
     ensures bytes { rules_bytes rows.new ≡ bytes.now }

@@ -43,6 +43,7 @@ pub fn write<S: WindowStore>(book: &Book, store: &S, bytes: &mut [u8]) -> Result
     Ok(end + 8)
 }
 
+// By place, as `write_numbers` and for the same reason.
 fn write_rules(rows: &[Row], bytes: &mut [u8])
     requires small { AllByRecursion SmallRule rows.now }
     requires room { length bytes.old ≡ 8 * length rows.now }

@@ -18,6 +18,7 @@ fn lines_length(days: &[u32]) -> usize
     ensures exact { result ≡ length (lines_from 0 days.now) }
     ensures few { result ≤ 12800 }
 {
+    // A loop and no `sum`: what is proved is how the total grows with the text.
     let mut total = 0;
     for (lot, day) in days.iter().enumerate() {
         total += lot_length(lot, *day);

@@ -26,9 +26,7 @@ fn before_dispatch(rt: HostRuntime) {
 
 #[test]
 fn in_weeks(rt: HostRuntime) -> Result<(), Fail> {
-    let Ok(week) = PeriodLength::new(7) else {
-        return Err(Fail::new("no week"));
-    };
+    let week = PeriodLength::new(7)?;
     let mut words = [3, 5, 4, 8, 6, 9, 15, 16, 9, 12];
     let mut days = [0; 5];
     // two weeks are too few, though three days of the season would be too
@@ -50,9 +48,7 @@ fn in_weeks(rt: HostRuntime) -> Result<(), Fail> {
 
 #[test]
 fn in_weeks_before_dispatch(rt: HostRuntime) -> Result<(), Fail> {
-    let Ok(week) = PeriodLength::new(7) else {
-        return Err(Fail::new("no week"));
-    };
+    let week = PeriodLength::new(7)?;
     let mut words = [3, 5, 4, 8, 6, 9, 15, 16, 9, 12];
     let mut days = [0; 5];
     let house = Period::new(Dispatch::new(WordStore::new(&mut words), 20), week);

@@ -1,12 +1,11 @@
 // What the tests share: closing a sheet, and settling or planning it in one go.
-use nvalue::stretch::Stretch;
 use plan::planning::plan;
 use plan::settle::settle;
 use rules::row::Row;
 use sheet::book::Book;
 use sheet::fault::SheetFault;
 use sheet::slip::Closed;
-use sheet::start::{add_rule, start};
+use sheet::start::{add_rows, start};
 use store::store::WindowStore;
 
 pub fn rule(first: usize, length: usize, floor: u32, ceiling: u32) -> Row {
@@ -25,17 +24,13 @@ pub fn closed<S: WindowStore>(
     rules: &[Row],
 ) -> Result<Closed, SheetFault> {
     let mut slip = start(house, book)?;
-    for row in rules {
-        let stretch = Stretch {
-            first: row.first,
-            length: row.length,
-        };
-        if let Err(fault) = add_rule(&mut slip, book, stretch, row.floor, row.ceiling) {
+    match add_rows(&mut slip, book, rules) {
+        Ok(()) => Ok(slip.close()),
+        Err(fault) => {
             slip.put_away();
-            return Err(fault);
+            Err(fault)
         }
     }
-    Ok(slip.close())
 }
 
 // Closes and settles.
@@ -67,7 +62,6 @@ pub fn planned<S: WindowStore>(
 
 // The count window of a rule, absent where there is no such rule.
 pub fn counts(book: &Book, number: usize) -> Option<(u32, u32)> {
-    let rule = book.rule(number)?;
-    let row = Row::from(rule);
+    let row = book.rows().get(number)?;
     Some((row.floor, row.ceiling))
 }

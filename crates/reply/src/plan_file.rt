@@ -38,6 +38,7 @@ fn plan_lots(words: &mut [u32], rows: &[u8], answer: &mut [u32]) -> Result<usize
     let house = WordStore::new(words);
     let mut book = Book::empty(0);
     let mut draft = start(&house, &mut book)?;
+    // No `?` here: a slip is put away on every way out.
     if let Err(fault) = add_rules(&mut draft, &mut book, rows) {
         draft.put_away();
         return Err(fault);

@@ -1,4 +1,5 @@
 // The asks: not before, not after, at least, at most.
+use crate::house::row;
 use bottom::words::WordStore;
 use nvalue::count_window::CountWindow;
 use nvalue::stretch::Stretch;
@@ -15,13 +16,12 @@ use store::fault::StoreFault;
 fn closed(words: &mut [u32], book: &mut Book) -> Result<Closed, SheetFault> {
     let length = words.len() / 2;
     let mut slip = start(&WordStore::new(words), book)?;
-    let _ = add_rule(&mut slip, book, Stretch { first: 0, length }, 1, 3);
+    let all = Stretch { first: 0, length };
+    if let Err(fault) = add_rule(&mut slip, book, all, 1, 3) {
+        slip.put_away();
+        return Err(fault);
+    }
     Ok(slip.close())
-}
-
-fn row(book: &Book, number: usize) -> Option<Row> {
-    let rule = book.rule(number)?;
-    Some(Row::from(rule))
 }
 
 fn counts(floor: u32, ceiling: u32) -> Option<Row> {
@@ -31,6 +31,10 @@ fn counts(floor: u32, ceiling: u32) -> Option<Row> {
         floor,
         ceiling,
     })
+}
+
+fn store_refusal(lot: usize, fault: StoreFault) -> SheetFault {
+    SheetFault::Store(StoreRefusal { lot, fault })
 }
 
 fn narrowed(book: &mut Book, number: usize, floor: u32, ceiling: u32) -> Option<bool> {
@@ -73,34 +77,10 @@ fn asks_for_days_refuse_in_order(rt: HostRuntime) -> Result<(), Fail> {
     slip.put_away();
     assert_eq!(rt; no_day, Err(SheetFault::NoSuchDay));
     assert_eq!(rt; no_day_after, Err(SheetFault::NoSuchDay));
-    assert_eq!(rt;
-        no_lot,
-        Err(SheetFault::Store(StoreRefusal {
-            lot: 2,
-            fault: StoreFault::NoSuchLot
-        }))
-    );
-    assert_eq!(rt;
-        no_lot_after,
-        Err(SheetFault::Store(StoreRefusal {
-            lot: 3,
-            fault: StoreFault::NoSuchLot
-        }))
-    );
-    assert_eq!(rt;
-        past,
-        Err(SheetFault::Store(StoreRefusal {
-            lot: 0,
-            fault: StoreFault::WouldEmpty
-        }))
-    );
-    assert_eq!(rt;
-        before,
-        Err(SheetFault::Store(StoreRefusal {
-            lot: 1,
-            fault: StoreFault::WouldEmpty
-        }))
-    );
+    assert_eq!(rt; no_lot, Err(store_refusal(2, StoreFault::NoSuchLot)));
+    assert_eq!(rt; no_lot_after, Err(store_refusal(3, StoreFault::NoSuchLot)));
+    assert_eq!(rt; past, Err(store_refusal(0, StoreFault::WouldEmpty)));
+    assert_eq!(rt; before, Err(store_refusal(1, StoreFault::WouldEmpty)));
     assert_eq!(rt; words, [3, 5, 4, 8]);
     Ok(())
 }
@@ -187,14 +167,7 @@ fn a_rule_never_loosens(rt: HostRuntime) -> Result<(), Fail> {
 #[test]
 fn every_refusal_has_its_number_and_place(rt: HostRuntime) {
     let cases = [
-        (
-            SheetFault::Store(StoreRefusal {
-                lot: 7,
-                fault: StoreFault::NoSuchLot,
-            }),
-            1,
-            7,
-        ),
+        (store_refusal(7, StoreFault::NoSuchLot), 1, 7),
         (SheetFault::NoSuchDay, 2, 0),
         (SheetFault::NoSuchStretch, 3, 0),
         (SheetFault::NoSuchCount, 4, 0),
@@ -204,14 +177,7 @@ fn every_refusal_has_its_number_and_place(rt: HostRuntime) {
         (SheetFault::TooManyLots, 20, 0),
         (SheetFault::FaultyWindow(8), 21, 8),
         (SheetFault::BookFull, 22, 0),
-        (
-            SheetFault::Store(StoreRefusal {
-                lot: 6,
-                fault: StoreFault::WouldEmpty,
-            }),
-            23,
-            6,
-        ),
+        (store_refusal(6, StoreFault::WouldEmpty), 23, 6),
         (SheetFault::NoCountLeft(5), 24, 5),
         (SheetFault::NoFirmWindows, 25, 0),
         (SheetFault::NoPlan, 26, 0),

@@ -1,4 +1,5 @@
 // Start, add rule and close.
+use crate::house::row;
 use bottom::words::WordStore;
 use nvalue::stretch::Stretch;
 use rules::row::Row;
@@ -11,11 +12,6 @@ use store::store::WindowStore;
 
 fn lots(first: usize, length: usize) -> Stretch {
     Stretch { first, length }
-}
-
-fn row(book: &Book, number: usize) -> Option<Row> {
-    let rule = book.rule(number)?;
-    Some(Row::from(rule))
 }
 
 // What start refuses with, if it does.

@@ -5,3 +5,5 @@
 mod asks;
 #[cfg(test)]
 mod drafts;
+#[cfg(test)]
+mod house;

@@ -1,6 +1,4 @@
-use mathlib.Core.List.{◌++◌}
-use mathlib.Core.Path.{◌≡◌, subst}
-use lib.ListN.{length, drop}
+use Rattle.std.proofs.Common.{◌≡◌, ◌++◌, length, drop, subst}
 use Rattle.store.specs.Pairs.{paired}
 use Rattle.rules.specs.Plans.{Earliest}
 use Rattle.sheet.specs.Books.{rules_of}
