@@ -1,6 +1,5 @@
 // What settle and plan check before anything else; the windows are copied on the way.
-ghost use Rattle.std.specs.Prelude.{◌≡◌, ℕ, ◌*◌, ◌≤◌, length, take, MatchResult};
-ghost use Rattle.store.specs.Pairs.{paired};
+ghost use Rattle.std.specs.Prelude.{◌≡◌, ℕ, ◌*◌, ◌≤◌, length, MatchResult};
 ghost use Rattle.narrow.specs.Problems.{windows_of};
 ghost use Rattle.plan.specs.Ready.{Ready, Unready};
 

@@ -1,5 +1,5 @@
 // Lists of calls on a closed sheet, and the plans that they leave.
-ghost use Rattle.std.specs.Prelude.{◌≡◌, ℕ, ◌≤◌, true, false, List, [], length, IfOk, vec_capacity, MatchResult};
+ghost use Rattle.std.specs.Prelude.{◌≡◌, ◌≤◌, [], length, IfOk, vec_capacity, MatchResult};
 ghost use Rattle.plan.specs.Calls.{Makes, PlansLeft, Runs, state};
 
 use crate::calls::{Call, Outcome};

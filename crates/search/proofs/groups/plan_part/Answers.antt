@@ -11,12 +11,12 @@ write_lows-requires c =
     let a = c.args.start in
     let b = c.args.end in
     let left = windows_of c.hunt.new.problem in
-    let many : length (windows_of c.new-group.result) ≡ b - a =
-    ap length c.new-group.ensures.windows ∙ ap (λ vs. length (take (b - a) (drop a vs))) c.windows.ensures ∙ length-between (windows_of c.args.problem.now) a b c.requires.there in
+    let many : length (windows_of c.cut-group.result) ≡ b - a =
+    ap length c.cut-group.ensures.windows ∙ length-between (windows_of c.args.problem.now) a b c.requires.there in
     omega (
       arith,
       length-between c.args.days.now a b (omega (arith, c.requires.there, c.requires.each)),
-      ap length c.windows-2.ensures,
+      ap length c.windows.ensures,
       length-map left (λ w. w.low),
       choice_length _ _ c.in_ok-hunt.ensures.plan.choice,
       many,
