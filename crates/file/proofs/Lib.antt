@@ -5,3 +5,4 @@ pub mod Over
 pub mod Reading
 pub mod Records
 pub mod Sheets
+pub mod Unfits

@@ -60,7 +60,7 @@ pub fn take_windows<S: WindowStore>(store: &S, page: &mut [u32], windows: &mut [
     requires each { length windows.old ≡ length (S.WindowStore.windows store.now) }
     requires room { 2 * length windows.old ≤ length page.old }
     ensures taken { windows.new ≡ S.WindowStore.windows store.now }
-    ensures copied { take (length windows.old) (paired page.new) ≡ S.WindowStore.windows store.now }
+    ensures copied { take (length (S.WindowStore.windows store.now)) (paired page.new) ≡ S.WindowStore.windows store.now }
 {
     copy_windows(store, page);
     read_windows(page, windows);

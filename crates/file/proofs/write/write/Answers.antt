@@ -1,34 +1,40 @@
 use Rattle.std.proofs.Common.{◌≡◌, ◌+◌, ◌*◌, length, take, Ok, sym, refl, ap, ◌∙◌, subst, arith}
 use Rattle.std.proofs.lemmas.List.{length-take-le}
+use Rattle.std.proofs.lemmas.Result.{err_from_is_err_and}
 use Rattle.std.specs.List.{AllByRecursion}
 use Rattle.store.specs.Pairs.{paired}
-use Rattle.store.specs.Sound.{FirstFaulty, Sound}
+use Rattle.store.specs.Seasons.{Unfit}
+use Rattle.store.specs.Sound.{Sound}
 use Rattle.sheet.specs.Books.{rules_of}
 use Rattle.sheet.proofs.Books.{rules_length}
 use Rattle.file.specs.Format.{lots_bytes, rules_bytes, file_of, SmallRule}
-use Rattle.file.specs.Writes.{faulty_window, short_bytes, written}
+use Rattle.file.specs.Writes.{short_bytes, written}
+use Rattle.file.proofs.Unfits.{unfit_written}
 use Rattle.file.proofs.Over.{file_written, rules_small}
 use Rattle.file.proofs.Records.{paired_front, lots_numbers, sound_small}
 use Rattle.file.proofs.Sheets.{length_file}
 use Rattle.file.proofs.write.write.Goals as goal
 
-pub returns-in-Some : goal.returns-in-Some
-returns-in-Some g c =
-    let same = ap (λ n. take n (paired c.copy_windows.new.page)) c.lots-lots.ensures ∙ c.copy_windows.ensures in
-    faulty_window c.in-Some.lot (omega (arith, c.lots-lots.ensures)) (omega (arith, c.lots-lots.ensures)) (subst (λ ws. FirstFaulty ws c.in-Some.lot) same c.in-Some.ensures) refl refl
+pub returns-in_err-new : goal.returns-in_err-new
+returns-in_err-new g c =
+    let e = err_from_is_err_and c.from_residual.result c.from_residual.ensures.1 in
+    let unfit = subst (λ ws. Unfit ws c.in_err-new.field-0.0) c.take_windows.ensures.taken c.in_err-new.ensures in
+    rw (e.1, e.2) (unfit_written _ _ _ _ (omega (arith, c.lots-lots.ensures)) unfit)
 
 pub returns-then-bytes-end : goal.returns-then-bytes-end
 returns-then-bytes-end g c =
     let ws = g.S.WindowStore.windows c.args.store.now in
-    let same = ap (λ n. take n (paired c.copy_windows.new.page)) c.lots-lots.ensures ∙ c.copy_windows.ensures in
-    short_bytes (omega (arith, c.lots-lots.ensures)) (omega (arith, c.lots-lots.ensures)) (subst (AllByRecursion Sound) same c.in_default.ensures)
+    let good = subst (AllByRecursion Sound) (c.in_ok-new.ensures ∙ c.take_windows.ensures.taken) c.in_ok-new.field-0.sound in
+    short_bytes (omega (arith, c.lots-lots.ensures)) (omega (arith, c.lots-lots.ensures)) good
     (omega (arith, length_file ws (rules_of c.args.book.now), c.lots-lots.ensures)) refl refl
 
 pub write_numbers-requires-clause-small : goal.write_numbers-requires-clause-small
 write_numbers-requires-clause-small g c =
-    let words = c.copy_windows.new.page in
+    let words = c.take_windows.new.page in
     let lots = c.lots-lots.result in
-    sound_small lots (take (2 * lots) words) (length-take-le (2 * lots) words (omega arith)) (subst (AllByRecursion Sound) (sym (paired_front lots words (omega arith))) c.in_default.ensures)
+    let same = ap (λ n. take n (paired words)) c.lots-lots.ensures ∙ c.take_windows.ensures.copied in
+    let good = subst (AllByRecursion Sound) (c.in_ok-new.ensures ∙ c.take_windows.ensures.taken) c.in_ok-new.field-0.sound in
+    sound_small lots (take (2 * lots) words) (length-take-le (2 * lots) words (omega arith)) (subst (AllByRecursion Sound) (sym (paired_front lots words (omega arith) ∙ same)) good)
 
 pub write_rules-requires-clause-small : goal.write_rules-requires-clause-small
 write_rules-requires-clause-small g c = let h = c.rows in subst (AllByRecursion SmallRule) (sym c.rows.ensures) (rules_small c.args.book.now (omega arith))
@@ -37,13 +43,14 @@ pub returns : goal.returns
 returns g c =
     let ws = g.S.WindowStore.windows c.args.store.now in
     let book = c.args.book.now in
-    let words = c.copy_windows.new.page in
+    let words = c.take_windows.new.page in
     let lots = c.lots-lots.result in
     let rules = c.rules-rules.result in
-    let same : take lots (paired words) ≡ ws = ap (λ n. take n (paired words)) c.lots-lots.ensures ∙ c.copy_windows.ensures in
+    let same : take lots (paired words) ≡ ws = ap (λ n. take n (paired words)) c.lots-lots.ensures ∙ c.take_windows.ensures.copied in
     let long : 4 * lots + 8 * rules + 8 ≡ length (file_of ws (rules_of book)) = omega (arith, length_file ws (rules_of book), c.lots-lots.ensures) in
     let lots_are : c.write_numbers.new.bytes ≡ lots_bytes ws =
     c.write_numbers.ensures ∙ sym (lots_numbers lots (take (2 * lots) words) (length-take-le (2 * lots) words (omega arith))) ∙ ap lots_bytes (paired_front lots words (omega arith) ∙ same) in
-    written (omega (arith, c.lots-lots.ensures)) (omega (arith, c.lots-lots.ensures)) (subst (AllByRecursion Sound) same c.in_default.ensures) (omega arith) (omega (arith, rules_length book, book.few)) (ap Ok long)
+    let good = subst (AllByRecursion Sound) (c.in_ok-new.ensures ∙ c.take_windows.ensures.taken) c.in_ok-new.field-0.sound in
+    written (omega (arith, c.lots-lots.ensures)) (omega (arith, c.lots-lots.ensures)) good (omega arith) (omega (arith, rules_length book, book.few)) (ap Ok long)
     (file_written c.args.bytes.now c.write_numbers.new.bytes c.write_rules.new.bytes c.write_trailer.new.bytes ws (rules_of book) lots rules _ _ c.lots-lots.ensures c.rules-rules.ensures (omega arith) (omega arith) (omega arith)
     lots_are (c.write_rules.ensures ∙ ap rules_bytes c.rows.ensures) c.write_trailer.ensures)
