@@ -32,12 +32,12 @@ impl Problem {
         ensures windows { windows_of result ≡ windows.now }
         ensures book { result.book ≡ book }
     {
-        let mut room = [Window { low: 0, high: 0 }; LOTS];
-        room[..windows.len()].copy_from_slice(windows);
-        Problem {
-            windows: room,
+        let mut problem = Problem {
+            windows: [Window { low: 0, high: 0 }; LOTS],
             book,
-        }
+        };
+        copy_front(windows, &mut problem.windows);
+        problem
     }
 
     // The window of each lot.
@@ -56,4 +56,12 @@ impl Problem {
     {
         self.windows[lot] = window;
     }
+}
+
+// Writes windows to the front of a room for them.
+fn copy_front(windows: &[Window], room: &mut [Window])
+    requires { length windows.now ≤ length room.old }
+    ensures { take (length windows.now) room.new ≡ windows.now }
+{
+    room[..windows.len()].copy_from_slice(windows);
 }
