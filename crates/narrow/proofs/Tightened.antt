@@ -1,10 +1,12 @@
 -- A rule of a book whose windows were tightened takes the tightest count window, and is firm then.
-use Rattle.std.proofs.Common.{◌≡◌, ℕ, ◌+◌, ◌<◌, ◌≤◌, Bool, true, ◌⊎◌, List, ◌++◌, length, take, drop, sym, ap, ◌∙◌, subst, inl, inr, arith}
-use Rattle.std.proofs.lemmas.List.{length-append, length-drop, length-take-le, take_at}
+use Rattle.std.proofs.Common.{◌≡◌, ℕ, ◌+◌, ◌<◌, ◌≤◌, Bool, true, ◌⊎◌, List, length, take, drop, sym, refl, ap, ◌∙◌, subst, inl, inr, arith}
+use Rattle.std.proofs.ByRecursion.{All-drop, All-take}
+use Rattle.std.proofs.lemmas.Bool.{cases_lt}
+use Rattle.std.proofs.lemmas.List.{get_or-take, get_or_past, length-take-le}
 use Rattle.std.specs.List.{AllByRecursion}
 use Rattle.store.specs.declared.window.Window.{Window}
 use Rattle.store.specs.Sound.{Sound}
-use Rattle.store.specs.Windows.{window_at}
+use Rattle.store.specs.Windows.{window, window_at}
 use Rattle.nvalue.specs.Choices.{Choice}
 use Rattle.nvalue.specs.Nvalue.{Counts}
 use Rattle.rules.specs.declared.row.Row.{Row}
@@ -16,6 +18,7 @@ use Rattle.tight.specs.Tight.{Tightest}
 use Rattle.narrow.specs.declared.problem.Problem.{Problem}
 use Rattle.narrow.specs.Problems.{rules_in, windows_of}
 use Rattle.narrow.specs.Stepped.{Stepped}
+use Rattle.nvalue.proofs.Stretches.{part_take}
 use Rattle.narrow.proofs.Fitted.{rule_fits}
 use Rattle.narrow.proofs.Steps.{no_firm, stepped}
 
@@ -42,29 +45,49 @@ pub record Makes (p : Problem) (k : ℕ) (windows : List Window) (book : Book) :
   pub stepped : Stepped (windows_of p) (rules_in p) k (take (lots_of book) windows) (rules_of book)
   pub lots : lots_of book ≡ lots_of p.book
 
--- The same in a problem, from the rule that was read: of its room only the windows of its lots were lent.
-pub takes : (p : Problem) (now : Book) (ts : List Window) (n k least most : ℕ) (r : Bool) (q : Row) → k < length (rules_in p) → q ≡ rule_at (rules_in p) k → n ≡ lots_of p.book
-    → length ts ≡ length (take n p.windows) → ((i : ℕ) → (i < q.first) ⊎ (q.first + q.length ≤ i) → window_at ts i ≡ window_at (take n p.windows) i)
-    → Tightest (stretch q (take n p.windows)) q.floor q.ceiling (stretch q ts) least most → Narrows p.book k least most r now → (r ≡ true) × Makes p k (ts ++ drop n p.windows) now
-takes p now ts n k least most r q there read all long outside tight narrows =
-    let lots : length (windows_of p) ≡ lots_of p.book = length-take-le (lots_of p.book) p.windows (omega (arith, p.few, p.room)) in
-    let long_now : length ts ≡ length (windows_of p) = long ∙ ap (λ m. length (take m p.windows)) all in
-    let t : Tightens (windows_of p) ts least most q = subst (λ m. Tightens (take m p.windows) ts least most q) all (outside, tight) in
-    let done = took p.book now (windows_of p) ts k least most r there lots long_now p.sound (subst (Tightens (windows_of p) ts least most) read t) narrows in
-    let same : take (lots_of now) (ts ++ drop n p.windows) ≡ ts = take_at ts (drop n p.windows) (lots_of now) (omega (arith, long_now, lots, done.2)) in (
-      done.0,
-      record {
-        room = omega (arith, length-append ts (drop n p.windows), length-drop n p.windows, long_now, lots, all, p.few, p.room);
-        few = omega (arith, done.2, p.few);
-        sound = subst (AllByRecursion Sound) (sym same) done.1.sound;
-        stepped = subst (λ ws. Stepped (windows_of p) (rules_in p) k ws (rules_of now)) (sym same) done.1;
-        lots = done.2;
-      },
-    )
+module _ (p : Problem) (k : ℕ) (q : Row) (there : k < length (rules_in p)) (read : q ≡ rule_at (rules_in p) k) where
+  fits : q.first + q.length ≤ lots_of p.book
+  fits = let f = rule_fits p.book k there in omega (arith, f.1, ap (λ r. r.first) read, ap (λ r. r.length) read)
 
--- no choice keeps the rule that was read
-pub none_takes : (p : Problem) (n k : ℕ) (q : Row) → k < length (rules_in p) → q ≡ rule_at (rules_in p) k → n ≡ lots_of p.book
-    → ((ds : List ℕ) → Choice (stretch q (take n p.windows)) ds → Counts q.floor q.ceiling ds → ⊥) → NoFirm (windows_of p) (rules_in p)
-none_takes p n k q there read all none =
-    let none_now : (ds : List ℕ) → Choice (stretch q (windows_of p)) ds → Counts q.floor q.ceiling ds → ⊥ = subst (λ m. (ds : List ℕ) → Choice (stretch q (take m p.windows)) ds → Counts q.floor q.ceiling ds → ⊥) all none in
-    no_firm (windows_of p) (rules_in p) k there (subst (λ r. (ds : List ℕ) → Choice (stretch r (windows_of p)) ds → Counts r.floor r.ceiling ds → ⊥) read none_now)
+  -- the stretch lies among the windows in use
+  in_use : (vs : List Window) → stretch q (take (lots_of p.book) vs) ≡ stretch q vs
+  in_use vs = part_take vs (lots_of p.book) q.first q.length fits
+
+  lots_in : (vs : List Window) → length vs ≡ length p.windows → length (take (lots_of p.book) vs) ≡ lots_of p.book
+  lots_in vs long = length-take-le (lots_of p.book) vs (omega (arith, p.few, p.room))
+
+  -- The same in a problem, from the rule that was read and the room that was written.
+  pub takes : (now : Book) (vs : List Window) (least most : ℕ) (r : Bool) → length vs ≡ length p.windows → ((i : ℕ) → (i < q.first) ⊎ (q.first + q.length ≤ i) → window_at vs i ≡ window_at p.windows i)
+      → Tightest (stretch q p.windows) q.floor q.ceiling (stretch q vs) least most → Narrows p.book k least most r now → (r ≡ true) × Makes p k vs now
+  takes now vs least most r long outside tight narrows =
+      let n = lots_of p.book in
+      let out : (i : ℕ) → (i < q.first) ⊎ (q.first + q.length ≤ i) → window_at (take n vs) i ≡ window_at (take n p.windows) i =
+      λ i o. elim (cases_lt i n) [
+        | inl h ↦ get_or-take n vs i (window 0 0) h ∙ outside i o ∙ sym (get_or-take n p.windows i (window 0 0) h)
+        | inr h ↦ get_or_past (take n vs) i (window 0 0) (omega (arith, lots_in vs long)) ∙ sym (get_or_past (take n p.windows) i (window 0 0) (omega (arith, lots_in p.windows refl)))
+      ] in
+      let t : Tightest (stretch q (take n p.windows)) q.floor q.ceiling (stretch q (take n vs)) least most =
+      subst (λ ss. Tightest (stretch q (take n p.windows)) q.floor q.ceiling ss least most) (sym (in_use vs)) (subst (λ ss. Tightest ss q.floor q.ceiling (stretch q vs) least most) (sym (in_use p.windows)) tight) in
+      let done =
+      took p.book now (take n p.windows) (take n vs) k least most r there (lots_in p.windows refl) (lots_in vs long ∙ sym (lots_in p.windows refl)) p.sound
+      (subst (Tightens (take n p.windows) (take n vs) least most) read (out, t)) narrows
+      in (
+        done.0,
+        record {
+          room = long ∙ p.room;
+          few = omega (arith, done.2, p.few);
+          sound = subst (λ m. AllByRecursion Sound (take m vs)) (sym done.2) done.1.sound;
+          stepped = subst (λ m. Stepped (windows_of p) (rules_in p) k (take m vs) (rules_of now)) (sym done.2) done.1;
+          lots = done.2;
+        },
+      )
+
+  -- no choice keeps the rule
+  pub none_takes : ((ds : List ℕ) → Choice (stretch q p.windows) ds → Counts q.floor q.ceiling ds → ⊥) → NoFirm (windows_of p) (rules_in p)
+  none_takes none =
+      let none_now : (ds : List ℕ) → Choice (stretch q (windows_of p)) ds → Counts q.floor q.ceiling ds → ⊥ = subst (λ ss. (ds : List ℕ) → Choice ss ds → Counts q.floor q.ceiling ds → ⊥) (sym (in_use p.windows)) none in
+      no_firm (windows_of p) (rules_in p) k there (subst (λ r. (ds : List ℕ) → Choice (stretch r (windows_of p)) ds → Counts r.floor r.ceiling ds → ⊥) read none_now)
+
+  -- the windows of the stretch are sound
+  pub sound_there : AllByRecursion Sound (stretch q p.windows)
+  sound_there = subst (AllByRecursion Sound) (in_use p.windows) (All-take Sound q.length (drop q.first (windows_of p)) (All-drop Sound q.first (windows_of p) p.sound))

@@ -10,7 +10,7 @@ ghost use Rattle.narrow.specs.Stepped.{Stepped};
 use crate::due::Due;
 use crate::fault::Inconsistent;
 use crate::moved::mark_moved;
-use crate::one_rule::tightened;
+use crate::one_rule::tighten_rule;
 use crate::problem::Problem;
 
 // Narrows windows and count windows to the greatest firm ones inside them. Where there are none, what is left of the problem means nothing.
@@ -41,8 +41,8 @@ fn turn(problem: &mut Problem, number: usize, due: &mut Due) -> Result<(), Incon
     ensures clean { IfOk result (λ _. (q : ℕ) → q < length (rules_in problem.new) → (q ≢ number) → is_due due.new q ≡ false → (is_due due.old q ≡ false) × (stretch (rule_at (rules_in problem.new) q) (windows_of problem.old) ≡ stretch (rule_at (rules_in problem.new) q) (windows_of problem.new))) }
     ensures lots { lots_of problem.new.book ≡ lots_of problem.old.book }
 {
-    let tighter = tightened(problem, number)?;
-    mark_moved(problem, &tighter, number, due);
-    *problem = tighter;
+    let before = *problem;
+    tighten_rule(problem, number)?;
+    mark_moved(&before, problem, number, due);
     Ok(())
 }

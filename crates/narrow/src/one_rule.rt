@@ -18,28 +18,28 @@ use sheet::rule::Rule;
 use store::window::Window;
 use tight::tight::tighten;
 
-// The problem with one rule made firm: its windows and its count window are the tightest.
-pub(crate) fn tightened(problem: &Problem, number: usize) -> Result<Problem, Inconsistent>
-    requires there { number < length (rules_in problem.now) }
-    ensures { MatchResult result (λ tighter. Stepped (windows_of problem.now) (rules_in problem.now) number (windows_of tighter) (rules_in tighter) × (lots_of tighter.book ≡ lots_of problem.now.book)) (λ _. NoFirm (windows_of problem.now) (rules_in problem.now)) }
+// Makes the rule with a number firm: its windows and its count window become the tightest.
+pub(crate) fn tighten_rule(problem: &mut Problem, number: usize) -> Result<(), Inconsistent>
+    requires { number < length (rules_in problem.old) }
+    ensures stepped { MatchResult result (λ _. Stepped (windows_of problem.old) (rules_in problem.old) number (windows_of problem.new) (rules_in problem.new)) (λ _. NoFirm (windows_of problem.old) (rules_in problem.old)) }
+    ensures lots { lots_of problem.new.book ≡ lots_of problem.old.book }
 {
     let Some(rule) = problem.book.rule(number) else {
         return Err(Inconsistent);
     };
-    let mut windows = problem.windows;
-    let mut book = problem.book;
-    let count = tighten_stretch(&mut windows[..book.lots()], rule)?;
-    if !book.narrow(number, count) {
-        return Err(Inconsistent);
+    let count = tighten_stretch(&mut problem.windows, rule)?;
+    if problem.book.narrow(number, count) {
+        Ok(())
+    } else {
+        Err(Inconsistent)
     }
-    Ok(Problem { windows, book })
 }
 
 // Narrows the windows of a rule's stretch to the tightest, and answers its tightest count window. Where no choice keeps the rule, the windows stay.
 fn tighten_stretch(windows: &mut [Window], rule: Rule) -> Result<CountWindow, Inconsistent>
     requires within { rule.stretch.first + rule.stretch.length ≤ length windows.old }
     requires few { length windows.old ≤ 256 }
-    requires sound { AllByRecursion Sound windows.old }
+    requires sound { AllByRecursion Sound (part windows.old rule.stretch.first rule.stretch.length) }
     ensures outside { (i : ℕ) → (i < rule.stretch.first) ⊎ (rule.stretch.first + rule.stretch.length ≤ i) → window_at windows.new i ≡ window_at windows.old i }
     ensures tight { MatchResult result (λ t. Tightest (part windows.old rule.stretch.first rule.stretch.length) rule.count.floor rule.count.ceiling (part windows.new rule.stretch.first rule.stretch.length) t.floor t.ceiling) (λ _. ((ds : List ℕ) → Choice (part windows.old rule.stretch.first rule.stretch.length) ds → Counts rule.count.floor rule.count.ceiling ds → ⊥) × (windows.new ≡ windows.old)) }
 {

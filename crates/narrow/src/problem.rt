@@ -23,8 +23,7 @@ pub struct Problem {
 impl Problem {
     ghost use Rattle.std.specs.Prelude.{◌-◌, ◌<◌, slice_set};
     ghost use Rattle.nvalue.specs.Choices.{part};
-    ghost use Rattle.rules.specs.Cuts.{within};
-    ghost use Rattle.narrow.specs.Problems.{windows_of, rules_in};
+    ghost use Rattle.narrow.specs.Problems.{windows_of};
 
     // The problem of these windows, one for each lot of the book.
     pub fn new(season: Season, book: Book) -> Problem
@@ -32,9 +31,22 @@ impl Problem {
         ensures windows { windows_of result ≡ season.entry.windows.now }
         ensures book { result.book ≡ book }
     {
-        let mut windows = [Window::default(); LOTS];
-        windows[..season.windows.len()].copy_from_slice(season.windows);
-        Problem { windows, book }
+        let mut problem = Problem {
+            windows: [Window::default(); LOTS],
+            book,
+        };
+        copy_front(season.windows, &mut problem.windows);
+        problem
+    }
+
+    // The same in the room of another problem, of which nothing is left: cheaper than a new one for each of many small problems.
+    pub fn refill(&mut self, season: Season, book: Book)
+        requires { length season.windows.now ≡ lots_of book }
+        ensures windows { windows_of self.new ≡ season.entry.windows.now }
+        ensures book { self.new.book ≡ book }
+    {
+        copy_front(season.windows, &mut self.windows);
+        self.book = book;
     }
 
     // The window of each lot.
@@ -44,17 +56,15 @@ impl Problem {
         &self.windows[..self.book.lots()]
     }
 
-    // The problem of the lots from `start` on and before `end`, by the rules that lie there.
-    pub fn cut(&self, start: usize, end: usize) -> Problem
+    // The windows of the lots from `start` on and before `end`.
+    pub fn part(&self, start: usize, end: usize) -> Season<'_>
         requires ordered { start ≤ end }
         requires there { end ≤ length (windows_of self.now) }
-        ensures windows { windows_of result ≡ part (windows_of self.now) start (end - start) }
-        ensures rules { rules_in result ≡ within start end (rules_in self.now) }
+        ensures { result.windows.now ≡ part (windows_of self.now) start (end - start) }
     {
-        let season = Season {
+        Season {
             windows: &self.windows()[start..end],
-        };
-        Problem::new(season, self.book.cut(start, end))
+        }
     }
 
     // Gives a lot another window.
@@ -66,4 +76,12 @@ impl Problem {
     {
         self.windows[lot] = window;
     }
+}
+
+// Writes windows to the front of a room for them.
+fn copy_front(windows: &[Window], room: &mut [Window])
+    requires { length windows.now ≤ length room.old }
+    ensures { take (length windows.now) room.new ≡ windows.now }
+{
+    room[..windows.len()].copy_from_slice(windows);
 }

@@ -30,10 +30,11 @@ fn plan_groups(problem: &Problem, days: &mut [u32]) -> Result<(), Infeasible>
     requires { length days.old ≡ length (windows_of problem.now) }
     ensures { MatchResult result (λ _. Earliest (windows_of problem.now) (rules_in problem.now) days.new) (λ _. NoPlan (windows_of problem.now) (rules_in problem.now)) }
 {
+    let mut room = *problem;
     let mut end = problem.windows().len();
     while end > 0 {
         let start = group_start(&problem.book, end);
-        plan_part(problem, start, end, days)?;
+        plan_part(problem, start, end, &mut room, days)?;
         end = start;
     }
     Ok(())
@@ -65,11 +66,12 @@ fn goes_across(stretch: Stretch, p: usize) -> bool
     stretch.first < p && p - stretch.first < stretch.length
 }
 
-// The earliest plan of the lots from `start` on and before `end`, by the rules that lie there. The days after them stay.
+// The earliest plan of the lots from `start` on and before `end`, by the rules that lie there. The days after them stay. The room is for the problem of these lots.
 fn plan_part(
     problem: &Problem,
     start: usize,
     end: usize,
+    room: &mut Problem,
     days: &mut [u32],
 ) -> Result<(), Infeasible>
     requires each { length days.old ≡ length (windows_of problem.now) }
@@ -78,8 +80,8 @@ fn plan_part(
     ensures found { MatchResult result (λ _. Earliest (part (windows_of problem.now) start (end - start)) (within start end (rules_in problem.now)) (part days.new start (end - start))) (λ _. NoPlan (part (windows_of problem.now) start (end - start)) (within start end (rules_in problem.now))) }
     ensures rest { drop end days.new ≡ drop end days.old }
 {
-    let mut group = problem.cut(start, end);
-    hunt(&mut group, Due::all())?;
-    write_lows(group.windows(), &mut days[start..end]);
+    room.refill(problem.part(start, end), problem.book.cut(start, end));
+    hunt(room, Due::all())?;
+    write_lows(room.windows(), &mut days[start..end]);
     Ok(())
 }

@@ -11,8 +11,8 @@ write_lows-requires c =
     let a = c.args.start in
     let b = c.args.end in
     let left = windows_of c.hunt.new.problem in
-    let many : length (windows_of c.cut-group.result) ≡ b - a =
-    ap length c.cut-group.ensures.windows ∙ length-between (windows_of c.args.problem.now) a b c.requires.there in
+    let many : length (windows_of c.refill.new.self) ≡ b - a =
+    ap length c.refill.ensures.windows ∙ ap length c.part.ensures ∙ length-between (windows_of c.args.problem.now) a b c.requires.there in
     omega (
       arith,
       length-between c.args.days.now a b (omega (arith, c.requires.there, c.requires.each)),
