@@ -31,17 +31,21 @@ fn main(rt: HostRuntime) -> io::Result<()> {
 fn compare(alloc: Global, sheet: &Small, tally: &mut Tally) -> Result<(), AllocError> {
     let firm = greatest_firm(alloc, sheet)?;
     let plan = earliest(alloc, sheet)?;
-    tally.sheets.add_one();
+    add_one(&mut tally.sheets);
     if settled(alloc, sheet)? != firm {
-        tally.settle_differs.add_one();
+        add_one(&mut tally.settle_differs);
     }
     if planned(alloc, sheet)? != plan {
-        tally.plan_differs.add_one();
+        add_one(&mut tally.plan_differs);
     }
     match (firm, plan) {
-        (None, _) => tally.no_firm.add_one(),
-        (Some(_), None) => tally.firm_but_no_plan.add_one(),
-        (Some(_), Some(_)) => tally.planned.add_one(),
+        (None, _) => add_one(&mut tally.no_firm),
+        (Some(_), None) => add_one(&mut tally.firm_but_no_plan),
+        (Some(_), Some(_)) => add_one(&mut tally.planned),
     }
     Ok(())
+}
+
+fn add_one(count: &mut u32) {
+    *count = count.saturating_add(1);
 }

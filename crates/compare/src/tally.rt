@@ -3,29 +3,12 @@ use std::fmt;
 
 #[derive(Clone, Copy, Default)]
 pub struct Tally {
-    pub sheets: Count,
-    pub settle_differs: Count,
-    pub plan_differs: Count,
-    pub no_firm: Count,
-    pub firm_but_no_plan: Count,
-    pub planned: Count,
-}
-
-// A number that goes up one by one.
-#[derive(Clone, Copy, Default)]
-pub struct Count(u32);
-
-impl Count {
-    pub fn add_one(&mut self) {
-        self.0 = self.0.saturating_add(1);
-    }
-}
-
-impl fmt::Display for Count {
-    fn fmt<W: fmt::Write>(&self, f: &mut fmt::Formatter<W>) -> fmt::Result {
-        let number = self.0;
-        write!(f, "{number}")
-    }
+    pub sheets: u32,
+    pub settle_differs: u32,
+    pub plan_differs: u32,
+    pub no_firm: u32,
+    pub firm_but_no_plan: u32,
+    pub planned: u32,
 }
 
 impl fmt::Display for Tally {

@@ -31,7 +31,7 @@ abbrev pub Small : ℕ → Type 0
 Small n = n < 65536
 
 abbrev pub SmallLot : Window → Type 0
-SmallLot w = (w.low < 65536) × (w.high < 65536)
+SmallLot w = Small w.low × Small w.high
 
 abbrev pub SmallRule : Row → Type 0
-SmallRule r = (r.first < 65536) × (r.length < 65536) × (r.floor < 65536) × (r.ceiling < 65536)
+SmallRule r = Small r.first × Small r.length × Small r.floor × Small r.ceiling

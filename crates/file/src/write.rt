@@ -39,7 +39,7 @@ pub fn write<S: WindowStore>(book: &Book, store: &S, bytes: &mut [u8]) -> Result
     }
     write_numbers(&words[..2 * lots], &mut bytes[..start]);
     write_rules(book.rows(), &mut bytes[start..end]);
-    write_trailer(lots, rules, &mut bytes[end..end + 8]);
+    bytes[end..end + 8].copy_from_slice(&trailer_record(lots, rules));
     Ok(end + 8)
 }
 
@@ -50,27 +50,28 @@ fn write_rules(rows: &[Row], bytes: &mut [u8])
     ensures { bytes.new ≡ rules_bytes rows.now }
 {
     for (place, row) in rows.iter().enumerate() {
-        write_rule(*row, &mut bytes[8 * place..8 * place + 8]);
+        bytes[8 * place..8 * place + 8].copy_from_slice(&rule_record(*row));
     }
 }
 
-fn write_rule(row: Row, bytes: &mut [u8])
-    requires small { SmallRule row }
-    requires room { length bytes.old ≡ 8 }
-    ensures { bytes.new ≡ rule_bytes row }
+fn rule_record(row: Row) -> [u8; 8]
+    requires { SmallRule row }
+    ensures { result ≡ rule_bytes row }
 {
     let numbers = [row.first as u32, row.length as u32, row.floor, row.ceiling];
-    write_numbers(&numbers, bytes);
+    let mut bytes = [0; 8];
+    write_numbers(&numbers, &mut bytes);
+    bytes
 }
 
-// The trailer: the place of the first rule, how many lots, how many rules, and the letters.
-fn write_trailer(lots: usize, rules: usize, bytes: &mut [u8])
+// The place of the first rule, how many lots, how many rules, and the letters.
+fn trailer_record(lots: usize, rules: usize) -> [u8; 8]
     requires few { lots ≤ 256 }
     requires some { rules ≤ 32 }
-    requires room { length bytes.old ≡ 8 }
-    ensures { bytes.new ≡ trailer lots rules }
+    ensures { result ≡ trailer lots rules }
 {
     let numbers = [(4 * lots) as u32, lots as u32, rules as u32];
+    let mut bytes = *b"......HD";
     write_numbers(&numbers, &mut bytes[..6]);
-    bytes[6..].copy_from_slice(b"HD");
+    bytes
 }

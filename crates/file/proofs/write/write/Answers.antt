@@ -52,5 +52,5 @@ returns g c =
     c.write_numbers.ensures ∙ sym (lots_numbers lots (take (2 * lots) words) (length-take-le (2 * lots) words (omega arith))) ∙ ap lots_bytes (paired_front lots words (omega arith) ∙ same) in
     let good = subst (AllByRecursion Sound) (c.in_ok-new.ensures ∙ c.take_windows.ensures.taken) c.in_ok-new.field-0.sound in
     written (omega (arith, c.lots-lots.ensures)) (omega (arith, c.lots-lots.ensures)) good (omega arith) (omega (arith, rules_length book, book.few)) (ap Ok long)
-    (file_written c.args.bytes.now c.write_numbers.new.bytes c.write_rules.new.bytes c.write_trailer.new.bytes ws (rules_of book) lots rules _ _ c.lots-lots.ensures c.rules-rules.ensures (omega arith) (omega arith) (omega arith)
-    lots_are (c.write_rules.ensures ∙ ap rules_bytes c.rows.ensures) c.write_trailer.ensures)
+    (file_written c.args.bytes.now c.write_numbers.new.bytes c.write_rules.new.bytes c.copy_from_slice.new.self ws (rules_of book) lots rules _ _ c.lots-lots.ensures c.rules-rules.ensures (omega arith) (omega arith) (omega arith)
+    lots_are (c.write_rules.ensures ∙ ap rules_bytes c.rows.ensures) (c.copy_from_slice.ensures.after ∙ c.trailer_record.ensures))

@@ -1,4 +1,4 @@
-use Rattle.std.proofs.Common.{◌+◌, ◌*◌, length, ap, arith}
+use Rattle.std.proofs.Common.{◌≡◌, ◌+◌, ◌*◌, length, get_or, ap, ◌∙◌, arith}
 use Rattle.sheet.specs.Books.{row}
 use Rattle.file.specs.Format.{rule_bytes}
 use Rattle.file.proofs.Over.{record_written}
@@ -7,4 +7,5 @@ use Rattle.file.proofs.write.write_rules.Goals as goal
 pub loop-place-preserved : goal.loop-place-preserved
 loop-place-preserved c =
     let i = c.loop-place.place in
-    record_written rule_bytes c.args.rows.now (row 0 0 0 0) i (8 * i) (8 * (i + 1)) _ c.loop-place.bytes c.write_rule.new.bytes (omega arith) (omega arith) (omega (arith, ap length c.write_rule.ensures)) c.loop-place.invariant c.write_rule.ensures
+    let written : c.copy_from_slice.new.self ≡ rule_bytes (get_or c.args.rows.now i (row 0 0 0 0)) = c.copy_from_slice.ensures.after ∙ c.rule_record.ensures in
+    record_written rule_bytes c.args.rows.now (row 0 0 0 0) i (8 * i) (8 * (i + 1)) _ c.loop-place.bytes c.copy_from_slice.new.self (omega arith) (omega arith) (omega (arith, ap length written)) c.loop-place.invariant written
