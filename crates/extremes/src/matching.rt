@@ -7,7 +7,7 @@ ghost use Rattle.extremes.specs.Shown.{Greatest};
 ghost use Rattle.store.specs.Sound.{Sound};
 ghost use Rattle.extremes.specs.Turns.{Taken, Free, Turn};
 
-use crate::order::{Slot, order_by_high};
+use crate::order::{Slot, by_last_day};
 use store::limits::{DAYS, LOTS};
 use store::season::Season;
 use store::window::Window;
@@ -26,10 +26,8 @@ pub fn most_of(season: Season, days: &mut [u32], runs: &mut [Window]) -> Most
     ensures shown { Greatest season.entry.windows.now days.new (take result.runs runs.new) result.count }
     ensures room { result.runs ≤ length runs.new }
 {
-    let mut slots = [(0, 0); LOTS];
-    let order = &mut slots[0..season.windows.len()];
-    order_by_high(season.windows, order);
-    place_lots(season, order, days, runs)
+    let mut room = [(0, 0); LOTS];
+    place_lots(season, by_last_day(season, &mut room), days, runs)
 }
 
 // Gives each lot its day, in the given order.

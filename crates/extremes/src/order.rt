@@ -3,19 +3,22 @@ ghost use Rattle.std.specs.Prelude.{◌≡◌, length};
 ghost use Rattle.std.specs.List.Sorted.{IsPermutation, IsNonDecreasingBy};
 ghost use Rattle.extremes.specs.Orders.{slots};
 
+use store::limits::LOTS;
+use store::season::Season;
 use store::window::Window;
 
 // A lot's last day, and its place in the stretch.
 pub type Slot = (u32, usize);
 
-// Fills `order` with the lots of the stretch, the earliest last day first.
-pub fn order_by_high(windows: &[Window], order: &mut [Slot])
-    requires { length order.old ≡ length windows.now }
-    ensures shuffled { IsPermutation (slots 0 windows.now) order.new }
-    ensures rises { IsNonDecreasingBy (λ s. s.0) order.new }
+// The lots of a season, the earliest last day first, in the room that is lent for them.
+pub fn by_last_day<'a>(season: Season, room: &'a mut [Slot; LOTS]) -> &'a [Slot]
+    ensures shuffled { IsPermutation (slots 0 season.entry.windows.now) result.now }
+    ensures rises { IsNonDecreasingBy (λ s. s.0) result.now }
 {
-    fill_slots(windows, order);
+    let order = &mut room[..season.windows.len()];
+    fill_slots(season.windows, order);
     order.sort_unstable();
+    order
 }
 
 fn fill_slots(windows: &[Window], order: &mut [Slot])

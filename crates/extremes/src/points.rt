@@ -5,7 +5,7 @@ ghost use Rattle.extremes.specs.Orders.{slots};
 ghost use Rattle.extremes.specs.Points.{lasts, Points};
 ghost use Rattle.extremes.specs.Shown.{Least};
 
-use crate::order::{Slot, order_by_high};
+use crate::order::{Slot, by_last_day};
 use store::limits::LOTS;
 use store::season::Season;
 
@@ -17,10 +17,8 @@ pub fn fewest_of(season: Season, days: &mut [u32], lots: &mut [u32]) -> usize
     ensures room { result ≤ length season.entry.windows.now }
     ensures points { Points season.entry.windows.now (lasts season.entry.windows.now (take result lots.new)) }
 {
-    let mut slots = [(0, 0); LOTS];
-    let order = &mut slots[0..season.windows.len()];
-    order_by_high(season.windows, order);
-    serve(season, order, days, lots)
+    let mut room = [(0, 0); LOTS];
+    serve(season, by_last_day(season, &mut room), days, lots)
 }
 
 // Serves the lots in order: one whose window begins past the last point opens a new one at its last day.

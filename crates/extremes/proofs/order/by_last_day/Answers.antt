@@ -1,7 +1,7 @@
 use Rattle.std.proofs.Common.{subst}
 use Rattle.std.specs.List.Sorted.{IsPermutation}
 use Rattle.extremes.proofs.Orders.{sorted_rises}
-use Rattle.extremes.proofs.order.order_by_high.Goals as goal
+use Rattle.extremes.proofs.order.by_last_day.Goals as goal
 
 pub returns : goal.returns
 returns c = record {
