@@ -20,11 +20,3 @@ loop-call-preserved g c =
       omega (arith, c.push_reserved.ensures.len, c.loop-call.invariant.2),
       c.push_reserved.ensures.capacity ∙ c.loop-call.invariant.3,
     )
-
-pub returns : goal.returns
-returns g c =
-    record {
-      runs = subst (λ cs. Runs c.args.slip.now cs (state (g.S.WindowStore.windows c.args.store.now) c.args.book.now c.args.answer.now c.args.work.now) (vec_items c.loop-call.outcomes) (state (g.S.WindowStore.windows c.loop-call.store) c.loop-call.book c.loop-call.answer c.loop-call.work))
-          (take_all c.loop-call.call-index c.args.calls.now (omega arith)) c.loop-call.invariant.0;
-      framed = c.loop-call.invariant.1;
-    }
