@@ -1,5 +1,5 @@
 use Rattle.std.proofs.Common.{◌+◌, [], ◌∷◌, ◌++◌, get_or, take, vec_items, sym, ◌∙◌, subst, arith}
-use Rattle.std.proofs.lemmas.List.{take_all, take_more}
+use Rattle.std.proofs.lemmas.List.{take_more}
 use Rattle.plan.specs.declared.calls.Call.TheVariants.{NotBefore}
 use Rattle.plan.specs.Calls.{Runs, state}
 use Rattle.plan.proofs.Runs.{runs_more}
