@@ -1,7 +1,7 @@
 // Which rules are due: those that are to be looked at, since a window of theirs moved.
 ghost use Rattle.std.specs.Prelude.{◌≡◌, ℕ, ◌<◌, true, false, length, MatchOption, slice_index_or};
 
-// A flag for each rule that a book has room for.
+// A flag for each rule that a book has room for. A struct round the array, since an array that is passed by value has no known length inside a loop.
 #[derive(Clone, Copy)]
 pub struct Due {
     flags: [bool; 32],
