@@ -3,7 +3,7 @@ ghost use Rattle.std.specs.Prelude.{◌≡◌, ℕ, ◌<◌, true, false, length
 
 use rules::row::RULES;
 
-// A flag for each rule that a book has room for.
+// A flag for each rule that a book has room for. A struct round the array, since an array that is passed by value has no known length inside a loop.
 #[derive(Clone, Copy)]
 pub struct Due {
     flags: [bool; RULES],

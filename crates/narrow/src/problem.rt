@@ -10,7 +10,7 @@ use store::limits::LOTS;
 use store::season::Season;
 use store::window::Window;
 
-// The lots of the book, which are at most 256, have sound windows. The windows past them mean nothing.
+// The lots of the book, which are at most 256, have sound windows. The windows past them mean nothing: the room is fixed, since the planner takes no memory.
 #[derive(Clone, Copy)]
 pub struct Problem {
     pub(crate) windows: [Window; LOTS],

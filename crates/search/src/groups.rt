@@ -25,7 +25,7 @@ pub fn earliest_plan(problem: &Problem, days: &mut [u32]) -> Result<(), Infeasib
     plan_groups(&settled, days)
 }
 
-// From the last group to the first, so that an impossible last group is found with no search of those before. What is found stays: no group looks at another.
+// From the last group to the first, so that an impossible last group is found with no search of those before. What is found stays: no group looks at another. A `while`, since each turn goes back by a whole group.
 fn plan_groups(problem: &Problem, days: &mut [u32]) -> Result<(), Infeasible>
     requires { length days.old ≡ length (windows_of problem.now) }
     ensures { MatchResult result (λ _. Earliest (windows_of problem.now) (rules_in problem.now) days.new) (λ _. NoPlan (windows_of problem.now) (rules_in problem.now)) }

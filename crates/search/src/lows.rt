@@ -23,7 +23,7 @@ pub fn lows_keep(problem: &Problem) -> bool
     days_keep(days, &problem.book)
 }
 
-// Writes the first day of each window.
+// Writes the first day of each window. By number: of days written through a zipped iterator only their count would be known afterwards.
 pub fn write_lows(windows: &[Window], days: &mut [u32])
     requires { length days.old ≡ length windows.now }
     ensures { days.new ≡ lows windows.now }
@@ -33,7 +33,7 @@ pub fn write_lows(windows: &[Window], days: &mut [u32])
     }
 }
 
-// Do the days keep every rule?
+// Do the days keep every rule? A loop: the closure of an `all` would have to take every row, and `keeps` takes only those of the sheet.
 fn days_keep(days: &[u32], book: &Book) -> bool
     requires { length days.now ≡ lots_of book.now }
     ensures { Decides result (AllByRecursion (Keeps days.now) (rules_of book.now)) }

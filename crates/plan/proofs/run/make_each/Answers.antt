@@ -1,5 +1,5 @@
 use Rattle.std.proofs.Common.{◌+◌, [], ◌∷◌, ◌++◌, get_or, take, vec_items, sym, ◌∙◌, subst, arith}
-use Rattle.std.proofs.lemmas.List.{take_all, take_more}
+use Rattle.std.proofs.lemmas.List.{take_more}
 use Rattle.plan.specs.declared.calls.Call.TheVariants.{NotBefore}
 use Rattle.plan.specs.Calls.{Runs, state}
 use Rattle.plan.proofs.Runs.{runs_more}
@@ -20,11 +20,3 @@ loop-call-preserved g c =
       omega (arith, c.push_reserved.ensures.len, c.loop-call.invariant.2),
       c.push_reserved.ensures.capacity ∙ c.loop-call.invariant.3,
     )
-
-pub returns : goal.returns
-returns g c =
-    record {
-      runs = subst (λ cs. Runs c.args.slip.now cs (state (g.S.WindowStore.windows c.args.store.now) c.args.book.now c.args.answer.now c.args.work.now) (vec_items c.loop-call.outcomes) (state (g.S.WindowStore.windows c.loop-call.store) c.loop-call.book c.loop-call.answer c.loop-call.work))
-          (take_all c.loop-call.call-index c.args.calls.now (omega arith)) c.loop-call.invariant.0;
-      framed = c.loop-call.invariant.1;
-    }
