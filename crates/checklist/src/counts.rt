@@ -1,10 +1,10 @@
 // The fewest and the most days of a stretch, with what shows them, in days and in weeks.
 use bottom::words::WordStore;
 use calendar::period::{Period, PeriodLength};
-use count::fault::CountFault;
 use count::fewest::fewest;
 use count::most::most;
 use count::stretch::Stretch;
+use page::guard::WORDS;
 use std::io;
 use store::store::WindowStore;
 
@@ -26,14 +26,14 @@ fn ask<S: WindowStore>(rt: &HostRuntime, house: &S) -> io::Result<()> {
         length: LOTS,
     };
     let mut answer = [0; 2 * LOTS];
-    let mut work = [0; 4096];
+    let mut work = [0; WORDS];
     match fewest(house, all, &mut answer, &mut work) {
         Ok(few) => {
             println!(rt; "  the fewest are {few}, as with")?;
             show_choice(rt, &answer)?;
             show_lots(rt, &answer, few)?;
         }
-        Err(fault) => refused(rt, fault)?,
+        Err(fault) => println!(rt; "  {fault}")?,
     }
     match most(house, all, &mut answer, &mut work) {
         Ok(shown) => {
@@ -42,7 +42,7 @@ fn ask<S: WindowStore>(rt: &HostRuntime, house: &S) -> io::Result<()> {
             show_choice(rt, &answer)?;
             show_runs(rt, &answer, shown.runs)
         }
-        Err(fault) => refused(rt, fault),
+        Err(fault) => println!(rt; "  {fault}"),
     }
 }
 
@@ -72,10 +72,4 @@ fn show_runs(rt: &HostRuntime, answer: &[u32], runs: usize) -> io::Result<()> {
         }
     }
     Ok(())
-}
-
-fn refused(rt: &HostRuntime, fault: CountFault) -> io::Result<()> {
-    let number = fault.number();
-    let place = fault.place();
-    println!(rt; "  refused {number} place {place}")
 }

@@ -6,7 +6,6 @@ use calendar::period::{Period, PeriodLength};
 use std::io;
 use store::fault::StoreFault;
 use store::store::{WindowStore, read_window};
-use store::window::Window;
 
 const DISPATCH: u32 = 14;
 
@@ -70,10 +69,7 @@ pub fn weeks_before_dispatch(
     println!(rt; "Periods of 367 days are asked for")?;
     match PeriodLength::new(367) {
         Ok(_) => println!(rt; "  accepted"),
-        Err(fault) => {
-            let number = fault.number();
-            println!(rt; "  refused {number}")
-        }
+        Err(fault) => println!(rt; "  {fault}"),
     }
 }
 
@@ -93,8 +89,8 @@ pub fn masked(rt: &HostRuntime, masks: &mut [u64]) -> io::Result<()> {
 
 fn show<S: WindowStore>(rt: &HostRuntime, house: &S) -> io::Result<()> {
     for lot in 0..house.lots() {
-        if let Some(Window { low, high }) = read_window(house, lot) {
-            println!(rt; "  lot {lot}: {low} to {high}")?;
+        if let Some(window) = read_window(house, lot) {
+            println!(rt; "  lot {lot}: {window}")?;
         }
     }
     Ok(())
@@ -103,7 +99,6 @@ fn show<S: WindowStore>(rt: &HostRuntime, house: &S) -> io::Result<()> {
 fn told(rt: &HostRuntime, answer: Result<(), StoreFault>) -> io::Result<()> {
     match answer {
         Ok(()) => println!(rt; "  accepted"),
-        Err(StoreFault::NoSuchLot) => println!(rt; "  refused: no such lot"),
-        Err(StoreFault::WouldEmpty) => println!(rt; "  refused: the window would be empty"),
+        Err(fault) => println!(rt; "  refused: {fault}"),
     }
 }

@@ -1,8 +1,9 @@
 // An early group and a late one: settled and planned by lists of calls, in each calendar, and the early one extracted.
-use crate::told::{refused, show_days, show_outcome, show_rules, show_windows};
+use crate::told::{show_days, show_outcome, show_rules, show_windows};
 use bottom::words::WordStore;
 use calendar::dispatch::Dispatch;
 use calendar::period::{Period, PeriodLength};
+use page::guard::WORDS;
 use plan::calls::Call;
 use plan::run::make_calls;
 use rules::row::Row;
@@ -19,7 +20,7 @@ const EARLY: usize = 4;
 const LOTS: usize = 9;
 
 // low and high of each lot in turn
-const WORDS: [u32; 2 * LOTS] = [
+const SEASON: [u32; 2 * LOTS] = [
     1, 3, 5, 7, 9, 11, 13, 15, 20, 25, 22, 28, 24, 29, 30, 31, 27, 33,
 ];
 
@@ -33,7 +34,7 @@ const CALLS: [Call; 5] = [
 
 // Four early lots with no limit and five late ones on at most three days, while the season uses more.
 pub fn two_groups(rt: &HostRuntime) -> io::Result<()> {
-    let mut words = WORDS;
+    let mut words = SEASON;
     println!(rt; "Four early lots, and five late ones on at most 3 days")?;
     work_on(rt, &mut WordStore::new(&mut words), 3)?;
     println!(rt; "The early group is extracted, and its windows are deleted")?;
@@ -48,14 +49,14 @@ pub fn two_groups(rt: &HostRuntime) -> io::Result<()> {
 
 // The same season in days before dispatch on day 40.
 pub fn before_dispatch(rt: &HostRuntime) -> io::Result<()> {
-    let mut words = WORDS;
+    let mut words = SEASON;
     println!(rt; "The same in days before dispatch, which is on day 40")?;
     work_on(rt, &mut Dispatch::new(WordStore::new(&mut words), 40), 3)
 }
 
 // And in weeks, where the late lots take no more than two.
 pub fn in_weeks(rt: &HostRuntime) -> io::Result<()> {
-    let mut words = WORDS;
+    let mut words = SEASON;
     let Ok(week) = PeriodLength::new(7) else {
         return println!(rt; "No such period");
     };
@@ -68,10 +69,10 @@ fn work_on<S: WindowStore>(rt: &HostRuntime, house: &mut S, limit: u32) -> io::R
     let mut book = Book::empty(0);
     let slip = match closed(house, &mut book, limit) {
         Ok(slip) => slip,
-        Err(fault) => return refused(rt, fault),
+        Err(fault) => return println!(rt; "  {fault}"),
     };
     let mut answer = [0; LOTS];
-    let mut work = [0; 4096];
+    let mut work = [0; WORDS];
     let made = make_calls(
         rt.alloc(),
         &slip,

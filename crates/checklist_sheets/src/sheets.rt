@@ -1,7 +1,8 @@
 // A house's sheet: rules, asks, settle and plan, and what a refusal leaves.
-use crate::told::{refused, show_rules, show_windows};
+use crate::told::{show_rules, show_windows};
 use bottom::words::WordStore;
 use nvalue::stretch::Stretch;
+use page::guard::WORDS;
 use plan::planning::plan;
 use sheet::asks::{at_most, not_before};
 use sheet::book::Book;
@@ -17,10 +18,10 @@ pub fn one_lot(rt: &HostRuntime) -> io::Result<()> {
     let mut book = Book::empty(0);
     let slip = match start(&house, &mut book) {
         Ok(draft) => draft.close(),
-        Err(fault) => return refused(rt, fault),
+        Err(fault) => return println!(rt; "  {fault}"),
     };
     let mut answer = [0; 1];
-    let mut work = [0; 4096];
+    let mut work = [0; WORDS];
     let planned = plan(&slip, &house, &book, &mut answer, &mut work);
     slip.put_away();
     match planned {
@@ -28,7 +29,7 @@ pub fn one_lot(rt: &HostRuntime) -> io::Result<()> {
             let day = answer[0];
             println!(rt; "  lot 0 on {day}, days in all: {count}")
         }
-        Err(fault) => refused(rt, fault),
+        Err(fault) => println!(rt; "  {fault}"),
     }
 }
 
@@ -49,7 +50,7 @@ pub fn two_lots(rt: &HostRuntime) -> io::Result<()> {
     show_windows(rt, &WordStore::new(&mut words))?;
     let asked = match ask(&mut words, &mut book) {
         Ok(asked) => asked,
-        Err(fault) => return refused(rt, fault),
+        Err(fault) => return println!(rt; "  {fault}"),
     };
     println!(rt; "A rule over three lots is asked for")?;
     tell(rt, asked.past)?;
@@ -58,7 +59,7 @@ pub fn two_lots(rt: &HostRuntime) -> io::Result<()> {
     println!(rt; "Lot 0 is to start on day 9 or later, past its last day")?;
     match asked.pushed {
         Ok(()) => println!(rt; "  accepted")?,
-        Err(fault) => refused(rt, fault)?,
+        Err(fault) => println!(rt; "  {fault}")?,
     }
     println!(rt; "Every window and rule after that")?;
     show_windows(rt, &WordStore::new(&mut words))?;
@@ -95,6 +96,6 @@ fn ask(words: &mut [u32], book: &mut Book) -> Result<Asked, SheetFault> {
 fn tell(rt: &HostRuntime, added: Result<usize, SheetFault>) -> io::Result<()> {
     match added {
         Ok(number) => println!(rt; "  accepted, with the number {number}"),
-        Err(fault) => refused(rt, fault),
+        Err(fault) => println!(rt; "  {fault}"),
     }
 }

@@ -2,15 +2,13 @@
 use plan::calls::Outcome;
 use rules::row::Row;
 use sheet::book::Book;
-use sheet::fault::SheetFault;
 use std::io;
 use store::store::{WindowStore, read_window};
-use store::window::Window;
 
 pub fn show_windows<S: WindowStore>(rt: &HostRuntime, house: &S) -> io::Result<()> {
     for lot in 0..house.lots() {
-        if let Some(Window { low, high }) = read_window(house, lot) {
-            println!(rt; "  lot {lot}: {low} to {high}")?;
+        if let Some(window) = read_window(house, lot) {
+            println!(rt; "  lot {lot}: {window}")?;
         }
     }
     Ok(())
@@ -44,12 +42,6 @@ pub fn show_outcome(rt: &HostRuntime, outcome: Outcome) -> io::Result<()> {
         Outcome::Settled(Ok(())) => println!(rt; "  settled"),
         Outcome::Planned(Ok(count)) => println!(rt; "  planned, days in all: {count}"),
         Outcome::Asked(Err(fault)) | Outcome::Settled(Err(fault)) | Outcome::Planned(Err(fault)) =>
-            { refused(rt, fault) }
+            { println!(rt; "  {fault}") }
     }
-}
-
-pub fn refused(rt: &HostRuntime, fault: SheetFault) -> io::Result<()> {
-    let number = fault.number();
-    let place = fault.place();
-    println!(rt; "  refused {number} place {place}")
 }

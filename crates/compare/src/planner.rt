@@ -1,6 +1,7 @@
 // The planner on a small sheet.
 use crate::small::Small;
 use bottom::words::WordStore;
+use page::guard::WORDS;
 use plan::planning::plan;
 use plan::settle::settle;
 use rules::row::Row;
@@ -20,7 +21,7 @@ pub fn settled(alloc: Global, sheet: &Small) -> Result<Option<Small>, AllocError
     let Ok(slip) = closed(sheet, &house, &mut book) else {
         return Ok(None);
     };
-    let mut work = [0; 4096];
+    let mut work = [0; WORDS];
     let answer = settle(&slip, &mut house, &mut book, &mut work);
     slip.put_away();
     match answer {
@@ -38,7 +39,7 @@ pub fn planned(alloc: Global, sheet: &Small) -> Result<Option<Vec<u32>>, AllocEr
     let Ok(slip) = closed(sheet, &house, &mut book) else {
         return Ok(None);
     };
-    let mut work = [0; 4096];
+    let mut work = [0; WORDS];
     let answer = plan(&slip, &house, &book, &mut days, &mut work);
     slip.put_away();
     Ok(answer.ok().map(|_| days))

@@ -7,8 +7,7 @@ use crate::fault::ListFault;
 use crate::line::{write_count, write_lot};
 use crate::measure::list_length;
 use nvalue::count::different_days;
-
-const LOTS: usize = 256;
+use store::limits::LOTS;
 
 // Writes the text of a plan to the first bytes, and answers how many they are; the bytes past them stay.
 pub fn list(days: &[u32], out: &mut [u8]) -> Result<usize, ListFault>

@@ -14,6 +14,7 @@ use search::groups::earliest_plan;
 use sheet::book::Book;
 use sheet::fault::SheetFault;
 use sheet::slip::Closed;
+use store::limits::LOTS;
 use store::store::WindowStore;
 
 // Writes the earliest plan into the first answer words, one word a lot, and answers how many different days it has; refuses where there is no plan.
@@ -59,7 +60,7 @@ fn plan_problem(problem: &Problem, answer: &mut [u32]) -> Result<usize, SheetFau
     if answer.len() < lots {
         return Err(SheetFault::ShortAnswer);
     }
-    let mut space = [0; 256];
+    let mut space = [0; LOTS];
     let days = &mut space[..lots];
     earliest_plan(problem, days)?;
     answer[..lots].copy_from_slice(days);

@@ -13,6 +13,7 @@ use page::guard::WORDS;
 use plan::planning::plan;
 use sheet::book::Book;
 use sheet::start::start;
+use store::limits::LOTS;
 use store::store::WindowStore;
 
 // As long as a file of 256 lots and 32 rules.
@@ -25,7 +26,7 @@ pub fn plan_file(file: &[u8], answer: &mut [u32]) -> Result<usize, FileFault>
     if file.len() > LONGEST {
         return Err(FileFault::TrailerDisagrees);
     }
-    let mut words = [0; 512];
+    let mut words = [0; 2 * LOTS];
     let contents = read(file, &mut words)?;
     plan_lots(&mut words[..2 * contents.lots], contents.rows, answer)
 }

@@ -5,6 +5,7 @@ use crate::plan_file::plan_file;
 use listing::fault::ListFault;
 use listing::list::list;
 use listing::refusal::write_refusal;
+use store::limits::LOTS;
 
 // What the text is, and how many bytes it has.
 #[derive(Clone, Copy, PartialEq, Eq, Debug)]
@@ -19,7 +20,7 @@ pub enum Replied {
 pub fn reply(file: &[u8], out: &mut [u8]) -> Result<Replied, ListFault>
     ensures { Replies file.now out.old result out.new }
 {
-    let mut days = [0; 256];
+    let mut days = [0; LOTS];
     match plan_file(file, &mut days) {
         Ok(lots) => list(&days[..lots], out).map(Replied::Plan),
         Err(fault) => write_refusal(fault.number(), fault.place(), out).map(Replied::Refusal),

@@ -10,6 +10,7 @@ use narrow::problem::Problem;
 use nvalue::count::different_days;
 use rules::row::Row;
 use sheet::book::Book;
+use store::limits::LOTS;
 use store::window::Window;
 
 // Do the first days of all windows keep every rule?
@@ -17,7 +18,7 @@ pub fn lows_keep(problem: &Problem) -> bool
     ensures { Decides result (AllByRecursion (Keeps (lows (windows_of problem.now))) (rules_in problem.now)) }
 {
     let windows = problem.windows();
-    let mut room = [0; 256];
+    let mut room = [0; LOTS];
     let days = &mut room[..windows.len()];
     write_lows(windows, days);
     days_keep(days, &problem.book)
