@@ -1,1 +1,2 @@
+pub mod Hunts
 pub mod Search

@@ -7,6 +7,7 @@ ghost use Rattle.sheet.specs.Books.{lots_of, rule_at};
 ghost use Rattle.narrow.specs.Dues.{is_due};
 ghost use Rattle.narrow.specs.Problems.{windows_of, rules_in};
 ghost use Rattle.search.specs.Search.{FirstOpen, Raised, fixed, from_day};
+ghost use Rattle.search.specs.Hunts.{Hunts};
 
 use crate::due::due_over;
 use crate::fault::Infeasible;
@@ -21,7 +22,7 @@ use store::window::Window;
 #[cycle(hunt_pick_try_days_try_low)]
 pub fn hunt(problem: &mut Problem, due: Due) -> Result<(), Infeasible>
     requires clean { (k : ℕ) → k < length (rules_in problem.old) → is_due due k ≡ false → FirmRule (windows_of problem.old) (rule_at (rules_in problem.old) k) }
-    ensures { MatchResult result (λ _. Earliest (windows_of problem.old) (rules_in problem.old) (lows (windows_of problem.new))) (λ _. NoPlan (windows_of problem.old) (rules_in problem.old)) }
+    ensures { Hunts problem.old result problem.new }
 {
     narrow(problem, due)?;
     pick(problem)
@@ -31,7 +32,7 @@ pub fn hunt(problem: &mut Problem, due: Due) -> Result<(), Infeasible>
 #[cycle(hunt_pick_try_days_try_low)]
 fn pick(problem: &mut Problem) -> Result<(), Infeasible>
     requires firm { Firm (windows_of problem.old) (rules_in problem.old) }
-    ensures { MatchResult result (λ _. Earliest (windows_of problem.old) (rules_in problem.old) (lows (windows_of problem.new))) (λ _. NoPlan (windows_of problem.old) (rules_in problem.old)) }
+    ensures { Hunts problem.old result problem.new }
 {
     if lows_keep(problem) {
         return Ok(());
@@ -47,7 +48,7 @@ fn pick(problem: &mut Problem) -> Result<(), Infeasible>
 fn try_days(problem: &mut Problem, lot: usize) -> Result<(), Infeasible>
     requires firm { Firm (windows_of problem.old) (rules_in problem.old) }
     requires first { FirstOpen (windows_of problem.old) lot }
-    ensures { MatchResult result (λ _. Earliest (windows_of problem.old) (rules_in problem.old) (lows (windows_of problem.new))) (λ _. NoPlan (windows_of problem.old) (rules_in problem.old)) }
+    ensures { Hunts problem.old result problem.new }
 {
     while let Err(Infeasible) = try_low(problem, lot) {
         go_on(problem, lot)?;
