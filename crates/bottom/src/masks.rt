@@ -7,6 +7,7 @@ use store::step::{Step, lowering, raising};
 use store::store::WindowStore;
 use store::window::Window;
 
+// A type beside the word store, though both lend a slice: what its elements mean is all that makes a store.
 #[derive(Drop)]
 pub struct MaskStore<'a> {
     masks: &'a mut [u64],

@@ -8,6 +8,7 @@ use store::fault::StoreFault;
 use store::step::{Step, lowering, raising};
 use store::store::WindowStore;
 
+// A type beside the period layer, though both hold a store and a constant: what a day shows as and which end below a call moves is all that makes a layer.
 #[derive(Drop)]
 pub struct Dispatch<S> {
     below: S,

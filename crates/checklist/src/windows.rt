@@ -87,6 +87,7 @@ pub fn masked(rt: &HostRuntime, masks: &mut [u64]) -> io::Result<()> {
     Ok(())
 }
 
+// By the lots' numbers, as a store answers. The other checklist has the same lines: two programs share no library for so few.
 fn show<S: WindowStore>(rt: &HostRuntime, house: &S) -> io::Result<()> {
     for lot in 0..house.lots() {
         if let Some(window) = read_window(house, lot) {

@@ -10,6 +10,7 @@ use store::window::Window;
 // A lot's last day, and its place in the stretch.
 pub type Slot = (u32, usize);
 
+// That the order is a permutation of the lots, and rises, stays two clauses of those who take it: `IsPermutation` has the swaps as data, and a ghost field holds none.
 // The lots of a season, the earliest last day first, in the room that is lent for them.
 pub fn by_last_day<'a>(season: Season, room: &'a mut [Slot; LOTS]) -> &'a [Slot]
     ensures shuffled { IsPermutation (slots 0 season.entry.windows.now) result.now }

@@ -25,7 +25,7 @@ pub fn put_window(words: &mut [u32], lot: usize, w: Window)
     words[2 * lot + 1] = w.high;
 }
 
-// Copies the windows of a store onto a page.
+// Copies the windows of a store onto a page: by the lots' numbers, since a store lends no slice and answers for a lot by its number.
 fn copy_windows<S: WindowStore>(store: &S, page: &mut [u32])
     requires { 2 * length (S.WindowStore.windows store.now) ≤ length page.old }
     ensures { take (length (S.WindowStore.windows store.now)) (paired page.new) ≡ S.WindowStore.windows store.now }

@@ -52,7 +52,7 @@ fn make_each<S: WindowStore>(
     }
 }
 
-// Makes one call.
+// Makes one call. A `match`, since a list of calls is plain values that a house hands over, and of no other kinds.
 pub fn make_call<S: WindowStore>(
     slip: &Closed,
     store: &mut S,

@@ -36,7 +36,8 @@ fn best_from_left(season: Season, days: &mut [u32]) -> usize
     most_of(season, days, &mut runs).count
 }
 
-// The same that prefers late days.
+// The same that prefers late days. Of one shape with `last_days`, which also mirrors, finds and mirrors back: a function for both would take the call in the middle, and
+// what that promises of an image, for three lines each.
 fn best_from_right(season: Season, days: &mut [u32])
     requires each { length days.old ≡ length season.windows.now }
     ensures { Best season.entry.windows.now days.new }
