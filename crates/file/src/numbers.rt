@@ -1,5 +1,5 @@
 // Numbers of two bytes, the low one first: all that a sheet file holds, but for the letters at its end.
-ghost use Rattle.std.specs.Prelude.{◌≡◌, ◌*◌, length};
+ghost use Rattle.std.specs.Prelude.{◌≡◌, ◌+◌, ◌*◌, length};
 ghost use Rattle.std.specs.List.{AllByRecursion, flat_map};
 ghost use Rattle.file.specs.Format.{two, Small};
 
@@ -12,10 +12,19 @@ pub(crate) fn read_numbers(bytes: &[u8], words: &mut [u32])
     // The rest is kept by hand: a proof knows nothing of what a zip over `iter_mut` wrote.
     let mut rest = bytes;
     for word in words.iter_mut() {
-        let (pair, others) = rest.split_at(2);
-        *word = u32::from(u16::from_le_bytes([pair[0], pair[1]]));
+        let [low, high, others @ ..] = rest else {
+            return;
+        };
+        *word = u32::from(number(*low, *high));
         rest = others;
     }
+}
+
+// The number that two bytes hold.
+pub(crate) fn number(low: u8, high: u8) -> u16
+    ensures { result ≡ low + 256 * high }
+{
+    u16::from_le_bytes([low, high])
 }
 
 // Writes each word as a number.

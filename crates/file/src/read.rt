@@ -4,7 +4,7 @@ ghost use Rattle.file.specs.Reads.{Reads, Ends, lots_in, rules_in, place_in};
 ghost use Rattle.file.specs.declared.fault.FileFault.TheVariants.{NoSheetFile};
 
 use crate::fault::FileFault;
-use crate::numbers::read_numbers;
+use crate::numbers::{number, read_numbers};
 use rules::row::RULES;
 use store::limits::LOTS;
 
@@ -59,8 +59,8 @@ fn find_trailer(file: &[u8]) -> Result<Trailer, FileFault>
         return Err(FileFault::NoSheetFile);
     };
     Ok(Trailer {
-        place: u16::from_le_bytes([*p0, *p1]),
-        lots: u16::from_le_bytes([*l0, *l1]),
-        rules: u16::from_le_bytes([*r0, *r1]),
+        place: number(*p0, *p1),
+        lots: number(*l0, *l1),
+        rules: number(*r0, *r1),
     })
 }

@@ -5,7 +5,7 @@ ghost use Rattle.file.specs.Format.{rule_bytes, rules_bytes, SmallRule};
 ghost use Rattle.file.specs.Rows.{AddsBytes};
 
 use crate::fault::FileFault;
-use crate::numbers::read_numbers;
+use crate::numbers::number;
 use rules::row::Row;
 use sheet::book::Book;
 use sheet::slip::Draft;
@@ -46,13 +46,23 @@ fn read_row(bytes: &[u8]) -> Row
     ensures bytes { rule_bytes result ≡ bytes.now }
     ensures small { SmallRule result }
 {
-    let mut numbers = [0; 4];
-    read_numbers(bytes, &mut numbers);
-    let [first, length, floor, ceiling] = numbers;
+    let [
+        first0,
+        first1,
+        length0,
+        length1,
+        floor0,
+        floor1,
+        ceiling0,
+        ceiling1,
+    ] = bytes
+    else {
+        return Row::default();
+    };
     Row {
-        first: first as usize,
-        length: length as usize,
-        floor,
-        ceiling,
+        first: usize::from(number(*first0, *first1)),
+        length: usize::from(number(*length0, *length1)),
+        floor: u32::from(number(*floor0, *floor1)),
+        ceiling: u32::from(number(*ceiling0, *ceiling1)),
     }
 }
