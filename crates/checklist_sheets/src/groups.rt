@@ -8,9 +8,7 @@ use plan::calls::Call;
 use plan::run::make_calls;
 use rules::row::Row;
 use sheet::book::Book;
-use sheet::fault::SheetFault;
-use sheet::slip::Closed;
-use sheet::start::{add_rows, start};
+use sheet::start::closed;
 use std::alloc::AllocError;
 use std::io;
 use store::store::{WindowStore, read_window};
@@ -67,7 +65,7 @@ pub fn in_weeks(rt: &HostRuntime) -> io::Result<()> {
 // Closes the sheet of both groups, makes the calls, and shows what they answered and left.
 fn work_on<S: WindowStore>(rt: &HostRuntime, house: &mut S, limit: u32) -> io::Result<()> {
     let mut book = Book::empty(0);
-    let slip = match closed(house, &mut book, limit) {
+    let slip = match closed(house, &mut book, &rules(limit)) {
         Ok(slip) => slip,
         Err(fault) => return println!(rt; "  {fault}"),
     };
@@ -98,25 +96,20 @@ fn work_on<S: WindowStore>(rt: &HostRuntime, house: &mut S, limit: u32) -> io::R
     show_days(rt, &answer)
 }
 
-fn closed<S: WindowStore>(house: &S, book: &mut Book, limit: u32) -> Result<Closed, SheetFault> {
-    let early = Row {
-        first: 0,
-        length: EARLY,
-        floor: 0,
-        ceiling: 256,
-    };
-    let late = Row {
-        first: EARLY,
-        length: LOTS - EARLY,
-        floor: 0,
-        ceiling: limit,
-    };
-    let mut draft = start(house, book)?;
-    match add_rows(&mut draft, book, &[early, late]) {
-        Ok(()) => Ok(draft.close()),
-        Err(fault) => {
-            draft.put_away();
-            Err(fault)
-        }
-    }
+// No limit for the early lots, and one for the late ones.
+fn rules(limit: u32) -> [Row; 2] {
+    [
+        Row {
+            first: 0,
+            length: EARLY,
+            floor: 0,
+            ceiling: 256,
+        },
+        Row {
+            first: EARLY,
+            length: LOTS - EARLY,
+            floor: 0,
+            ceiling: limit,
+        },
+    ]
 }

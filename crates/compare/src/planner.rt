@@ -6,9 +6,7 @@ use plan::planning::plan;
 use plan::settle::settle;
 use rules::row::Row;
 use sheet::book::Book;
-use sheet::fault::SheetFault;
-use sheet::slip::Closed;
-use sheet::start::{add_rows, start};
+use sheet::start::closed;
 use std::alloc::{AllocError, Global};
 use store::store::{WindowStore, read_window};
 use store::window::Window;
@@ -18,7 +16,7 @@ pub fn settled(alloc: Global, sheet: &Small) -> Result<Option<Small>, AllocError
     let mut words = words_of(alloc, &sheet.windows)?;
     let mut house = WordStore::new(&mut words);
     let mut book = Book::empty(0);
-    let Ok(slip) = closed(sheet, &house, &mut book) else {
+    let Ok(slip) = closed(&house, &mut book, &sheet.rules) else {
         return Ok(None);
     };
     let mut work = [0; WORDS];
@@ -36,7 +34,7 @@ pub fn planned(alloc: Global, sheet: &Small) -> Result<Option<Vec<u32>>, AllocEr
     let house = WordStore::new(&mut words);
     let mut days = vec![in alloc; 0; sheet.windows.len()]?;
     let mut book = Book::empty(0);
-    let Ok(slip) = closed(sheet, &house, &mut book) else {
+    let Ok(slip) = closed(&house, &mut book, &sheet.rules) else {
         return Ok(None);
     };
     let mut work = [0; WORDS];
@@ -50,18 +48,6 @@ fn words_of(alloc: Global, windows: &[Window]) -> Result<Vec<u32>, AllocError> {
         .iter()
         .flat_map(|window| [window.low, window.high])
         .collect(alloc)
-}
-
-// Starts the sheet, adds its rules and closes it.
-fn closed<S: WindowStore>(sheet: &Small, house: &S, book: &mut Book) -> Result<Closed, SheetFault> {
-    let mut slip = start(house, book)?;
-    match add_rows(&mut slip, book, &sheet.rules) {
-        Ok(()) => Ok(slip.close()),
-        Err(fault) => {
-            slip.put_away();
-            Err(fault)
-        }
-    }
 }
 
 // The windows of a store and the rules of a book.

@@ -9,7 +9,7 @@ ghost use Rattle.page.specs.Cleared.{Cleared};
 use crate::fault::CountFault;
 use nvalue::stretch::Stretch;
 use page::guard::{Page, WORDS};
-use page::windows::take_windows;
+use page::windows::take_season;
 use store::limits::LOTS;
 use store::season::Season;
 use store::store::WindowStore;
@@ -57,14 +57,9 @@ fn ask_on<Q: Question, S: WindowStore>(
     ensures zero { (k : ℕ) → k < length page.new → slice_index page.new k ≡ 0 }
 {
     let page = Page { words: page };
-    let lots = store.lots();
-    if lots > LOTS {
-        return Err(CountFault::TooManyLots);
-    }
     let mut room = [Window::default(); LOTS];
-    let windows = &mut room[0..lots];
-    take_windows(store, page.words, windows);
-    let season = take_stretch(Season::new(windows)?, stretch)?;
+    let season = take_season(store, page.words, &mut room)?;
+    let season = take_stretch(season, stretch)?;
     if answer.len() < 2 * stretch.length {
         return Err(CountFault::ShortAnswer);
     }
@@ -75,7 +70,7 @@ fn ask_on<Q: Question, S: WindowStore>(
 fn take_stretch<'a>(season: Season<'a>, stretch: Stretch) -> Result<Season<'a>, CountFault>
     ensures { MatchResult result (λ taken. (1 ≤ stretch.length) × (stretch.first + stretch.length ≤ length season.entry.windows.now) × (taken.windows.now ≡ part season.entry.windows.now stretch.first stretch.length)) (λ e. (e ≡ NoSuchStretch) × ((stretch.length ≡ 0) ⊎ (length season.entry.windows.now < stretch.first + stretch.length))) }
 {
-    if stretch.length == 0 {
+    if !stretch.lies_within(season.windows.len()) {
         return Err(CountFault::NoSuchStretch);
     }
     season

@@ -6,12 +6,11 @@ ghost use Rattle.file.specs.Writes.{Writes};
 
 use crate::fault::FileFault;
 use crate::numbers::write_numbers;
-use page::windows::take_windows;
+use page::windows::take_season;
 use rules::row::Row;
 use sheet::book::Book;
 use sheet::fault::SheetFault;
 use store::limits::LOTS;
-use store::season::Season;
 use store::store::WindowStore;
 use store::window::Window;
 
@@ -28,9 +27,7 @@ pub fn write<S: WindowStore>(book: &Book, store: &S, bytes: &mut [u8]) -> Result
     }
     let mut words = [0; 2 * LOTS];
     let mut room = [Window::default(); LOTS];
-    let windows = &mut room[..lots];
-    take_windows(store, &mut words, windows);
-    Season::new(windows)?;
+    take_season(store, &mut words, &mut room)?;
     let rules = book.rules();
     let start = 4 * lots;
     let end = start + 8 * rules;

@@ -1,8 +1,11 @@
 // Windows on a page of words, where low and high of each lot stand in turn: copied from a store, and read back as windows.
-ghost use Rattle.std.specs.Prelude.{◌≡◌, ◌+◌, ◌*◌, ◌<◌, ◌≤◌, length, take, slice_set};
+ghost use Rattle.std.specs.Prelude.{◌≡◌, ◌+◌, ◌*◌, ◌<◌, ◌≤◌, length, take, IfOk, MatchResult, slice_set};
 ghost use Rattle.store.specs.Pairs.{paired};
+ghost use Rattle.store.specs.Seasons.{Unfit};
 ghost use Rattle.store.specs.Windows.{window_at};
 
+use store::limits::LOTS;
+use store::season::{Season, SeasonFault};
 use store::store::{WindowStore, read_window};
 use store::window::Window;
 
@@ -55,13 +58,22 @@ fn read_windows(page: &[u32], windows: &mut [Window])
     }
 }
 
-// Takes the windows of a store over a page of working words.
-pub fn take_windows<S: WindowStore>(store: &S, page: &mut [u32], windows: &mut [Window])
-    requires each { length windows.old ≡ length (S.WindowStore.windows store.now) }
-    requires room { 2 * length windows.old ≤ length page.old }
-    ensures taken { windows.new ≡ S.WindowStore.windows store.now }
-    ensures copied { take (length (S.WindowStore.windows store.now)) (paired page.new) ≡ S.WindowStore.windows store.now }
+// The windows of a store as a season, taken over a page of working words into the room that is lent for them. Refused where there are more than 256, or where one is faulty.
+pub fn take_season<'a, S: WindowStore>(
+    store: &S,
+    page: &mut [u32],
+    room: &'a mut [Window; LOTS],
+) -> Result<Season<'a>, SeasonFault>
+    requires { 512 ≤ length page.old }
+    ensures taken { MatchResult result (λ season. season.windows.now ≡ S.WindowStore.windows store.now) (Unfit (S.WindowStore.windows store.now)) }
+    ensures copied { IfOk result (λ _. take (length (S.WindowStore.windows store.now)) (paired page.new) ≡ S.WindowStore.windows store.now) }
 {
+    let lots = store.lots();
+    if lots > LOTS {
+        return Err(SeasonFault::TooManyLots);
+    }
+    let windows = &mut room[..lots];
     copy_windows(store, page);
     read_windows(page, windows);
+    Season::new(windows)
 }

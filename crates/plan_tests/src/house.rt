@@ -1,11 +1,10 @@
-// What the tests share: closing a sheet, and settling or planning it in one go.
+// What the tests share: settling or planning a sheet in one go.
 use plan::planning::plan;
 use plan::settle::settle;
 use rules::row::Row;
 use sheet::book::Book;
 use sheet::fault::SheetFault;
-use sheet::slip::Closed;
-use sheet::start::{add_rows, start};
+pub use sheet::start::closed;
 use store::store::WindowStore;
 
 pub fn rule(first: usize, length: usize, floor: u32, ceiling: u32) -> Row {
@@ -14,22 +13,6 @@ pub fn rule(first: usize, length: usize, floor: u32, ceiling: u32) -> Row {
         length,
         floor,
         ceiling,
-    }
-}
-
-// A closed sheet with these rules.
-pub fn closed<S: WindowStore>(
-    house: &S,
-    book: &mut Book,
-    rules: &[Row],
-) -> Result<Closed, SheetFault> {
-    let mut slip = start(house, book)?;
-    match add_rows(&mut slip, book, rules) {
-        Ok(()) => Ok(slip.close()),
-        Err(fault) => {
-            slip.put_away();
-            Err(fault)
-        }
     }
 }
 

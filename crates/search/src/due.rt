@@ -14,7 +14,7 @@ pub fn due_over(problem: &Problem, lot: usize) -> Due
 {
     let mut due = Due::none();
     for (number, row) in problem.book.rows().iter().enumerate() {
-        if row.first <= lot && lot - row.first < row.length {
+        if row.stretch().has(lot) {
             due.mark(number);
         }
     }

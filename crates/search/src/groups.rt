@@ -63,7 +63,7 @@ fn is_cut(book: &Book, p: usize) -> bool
 fn goes_across(stretch: Stretch, p: usize) -> bool
     ensures { Decides result ((stretch.first < p) × (p < stretch.first + stretch.length)) }
 {
-    stretch.first < p && p - stretch.first < stretch.length
+    stretch.first < p && stretch.has(p)
 }
 
 // The earliest plan of the lots from `start` on and before `end`, by the rules that lie there. The days after them stay. The room is for the problem of these lots.

@@ -7,6 +7,7 @@ use Rattle.rules.specs.declared.row.Row.{Row}
 use Rattle.sheet.specs.declared.book.Book.{Book}
 use Rattle.sheet.specs.declared.fault.SheetFault.{SheetFault}
 use Rattle.sheet.specs.declared.fault.SheetFault.TheVariants.{TooManyLots, FaultyWindow, Mismatch, NoSuchStretch, NoSuchCount, BookFull}
+use Rattle.sheet.specs.declared.slip.Closed.{Closed}
 use Rattle.sheet.specs.declared.slip.Draft.{Draft}
 use Rattle.sheet.specs.Books.{rules_of, lots_of, row}
 
@@ -51,3 +52,10 @@ pub data AddsAll (rows : List Row) (slip : Draft) (was : Book) (r : Result (Unit
   refused : (before after : List Row) (q : Row) (mid : Draft) (book : Book) (why : SheetFault) → rows ≡ before ++ q ∷ after → AddsEach before slip was mid book
       → Adds q.first q.length q.floor q.ceiling mid book (Err why) mid book → r ≡ Err why → slip' ≡ slip → is ≡ was → AddsAll rows slip was r slip' is
   all_added : AddsEach rows slip was slip' is → r ≡ Ok tt → AddsAll rows slip was r slip' is
+
+-- start a sheet, add rules in order, and close it
+pub data Opens (ws : List Window) (rows : List Row) (was : Book) (r : Result Closed SheetFault) (is : Book) : Type 0 where
+  not_started : (e : SheetFault) → Starts ws was (Err e) is → r ≡ Err e → Opens ws rows was r is
+  not_added : (e : SheetFault) (draft draft' : Draft) (begun : Book) → Starts ws was (Ok draft) begun → AddsAll rows draft begun (Err e) draft' is → r ≡ Err e → Opens ws rows was r is
+  opened : (draft draft' : Draft) (begun : Book) → Starts ws was (Ok draft) begun → AddsAll rows draft begun (Ok tt) draft' is
+      → r ≡ Ok (record { lots = draft'.lots; rules = draft'.rules }) → Opens ws rows was r is

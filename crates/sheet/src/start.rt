@@ -1,17 +1,16 @@
 // From a store and a book to a draft slip, and the rules that are added with it.
 ghost use Rattle.std.specs.Prelude.{◌≡◌, ◌+◌, ◌<◌, ◌≤◌, T, ◌⊎◌};
-ghost use Rattle.sheet.specs.Drafts.{Starts, Adds, AddsAll};
+ghost use Rattle.sheet.specs.Drafts.{Starts, Adds, AddsAll, Opens};
 
 use crate::book::Book;
 use crate::fault::SheetFault;
 use crate::rule::Rule;
-use crate::slip::Draft;
+use crate::slip::{Closed, Draft};
 use nvalue::count_window::CountWindow;
 use nvalue::stretch::Stretch;
-use page::windows::take_windows;
+use page::windows::take_season;
 use rules::row::{RULES, Row};
 use store::limits::LOTS;
-use store::season::Season;
 use store::store::WindowStore;
 use store::window::Window;
 
@@ -21,15 +20,10 @@ const GREATEST_CEILING: u32 = 256;
 pub fn start<S: WindowStore>(store: &S, book: &mut Book) -> Result<Draft, SheetFault>
     ensures { Starts (S.WindowStore.windows store.now) book.old result book.new }
 {
-    let lots = store.lots();
-    if lots > LOTS {
-        return Err(SheetFault::TooManyLots);
-    }
     let mut words = [0; 2 * LOTS];
     let mut room = [Window::default(); LOTS];
-    let windows = &mut room[..lots];
-    take_windows(store, &mut words, windows);
-    Season::new(windows)?;
+    take_season(store, &mut words, &mut room)?;
+    let lots = store.lots();
     *book = Book::empty(lots);
     Ok(Draft { lots, rules: 0 })
 }
@@ -46,7 +40,7 @@ pub fn add_rule(
 {
     let number = slip.rules;
     book.agree(slip.lots, number)?;
-    if !lies_within(stretch, slip.lots) {
+    if !stretch.lies_within(slip.lots) {
         return Err(SheetFault::NoSuchStretch);
     }
     let count = CountWindow::new(floor, ceiling).ok_or(SheetFault::NoSuchCount)?;
@@ -78,9 +72,19 @@ pub fn add_rows(slip: &mut Draft, book: &mut Book, rows: &[Row]) -> Result<(), S
     Ok(())
 }
 
-// True where a stretch has a lot and ends with the last lot at the latest.
-fn lies_within(stretch: Stretch, lots: usize) -> bool
-    ensures { (T result → (1 ≤ stretch.length) × (stretch.first + stretch.length ≤ lots)) × ((T result → ⊥) → (stretch.length ≡ 0) ⊎ (lots < stretch.first + stretch.length)) }
+// Starts a sheet with these rules, and closes it. Where a rule is refused the book has none of them, and there is no slip.
+pub fn closed<S: WindowStore>(
+    store: &S,
+    book: &mut Book,
+    rows: &[Row],
+) -> Result<Closed, SheetFault>
+    ensures { Opens (S.WindowStore.windows store.now) rows.now book.old result book.new }
 {
-    stretch.length > 0 && stretch.length <= lots && stretch.first <= lots - stretch.length
+    let mut draft = start(store, book)?;
+    // No `?` here: a slip is put away on every way out.
+    if let Err(fault) = add_rows(&mut draft, book, rows) {
+        draft.put_away();
+        return Err(fault);
+    }
+    Ok(draft.close())
 }

@@ -55,8 +55,7 @@ pub trait WindowStore {
 pub fn read_window<S: WindowStore>(store: &S, place: usize) -> Option<Window>
     ensures { result ≡ found (S.WindowStore.windows store.now) place }
 {
-    match (store.low(place), store.high(place)) {
-        (Some(low), Some(high)) => Some(Window { low, high }),
-        _ => None,
-    }
+    let low = store.low(place)?;
+    let high = store.high(place)?;
+    Some(Window { low, high })
 }

@@ -3,7 +3,6 @@ use Rattle.std.proofs.lemmas.List.{length-take-le}
 use Rattle.std.proofs.lemmas.Result.{err_from_is_err_and}
 use Rattle.std.specs.List.{AllByRecursion}
 use Rattle.store.specs.Pairs.{paired}
-use Rattle.store.specs.Seasons.{Unfit}
 use Rattle.store.specs.Sound.{Sound}
 use Rattle.sheet.specs.Books.{rules_of}
 use Rattle.sheet.proofs.Books.{rules_length}
@@ -15,25 +14,24 @@ use Rattle.file.proofs.Records.{paired_front, lots_numbers, sound_small}
 use Rattle.file.proofs.Sheets.{length_file}
 use Rattle.file.proofs.write.write.Goals as goal
 
-pub returns-in_err-new : goal.returns-in_err-new
-returns-in_err-new g c =
+pub returns-in_err-take_season : goal.returns-in_err-take_season
+returns-in_err-take_season g c =
     let e = err_from_is_err_and c.from_residual.result c.from_residual.ensures.1 in
-    let unfit = subst (λ ws. Unfit ws c.in_err-new.field-0.0) c.take_windows.ensures.taken c.in_err-new.ensures in
-    rw (e.1, e.2) (unfit_written _ _ _ _ (omega (arith, c.lots-lots.ensures)) unfit)
+    rw (e.1, e.2) (unfit_written _ _ _ _ (omega (arith, c.lots-lots.ensures)) c.in_err-take_season.ensures.taken)
 
 pub returns-then-bytes-end : goal.returns-then-bytes-end
 returns-then-bytes-end g c =
     let ws = g.S.WindowStore.windows c.args.store.now in
-    let good = subst (AllByRecursion Sound) (c.in_ok-new.ensures ∙ c.take_windows.ensures.taken) c.in_ok-new.field-0.sound in
+    let good = subst (AllByRecursion Sound) c.in_ok-take_season.ensures.taken c.in_ok-take_season.field-0.sound in
     short_bytes (omega (arith, c.lots-lots.ensures)) (omega (arith, c.lots-lots.ensures)) good
     (omega (arith, length_file ws (rules_of c.args.book.now), c.lots-lots.ensures)) refl refl
 
 pub write_numbers-requires-clause-small : goal.write_numbers-requires-clause-small
 write_numbers-requires-clause-small g c =
-    let words = c.take_windows.new.page in
+    let words = c.take_season.new.page in
     let lots = c.lots-lots.result in
-    let same = ap (λ n. take n (paired words)) c.lots-lots.ensures ∙ c.take_windows.ensures.copied in
-    let good = subst (AllByRecursion Sound) (c.in_ok-new.ensures ∙ c.take_windows.ensures.taken) c.in_ok-new.field-0.sound in
+    let same = ap (λ n. take n (paired words)) c.lots-lots.ensures ∙ c.in_ok-take_season.ensures.copied in
+    let good = subst (AllByRecursion Sound) c.in_ok-take_season.ensures.taken c.in_ok-take_season.field-0.sound in
     sound_small lots (take (2 * lots) words) (length-take-le (2 * lots) words (omega arith)) (subst (AllByRecursion Sound) (sym (paired_front lots words (omega arith) ∙ same)) good)
 
 pub write_rules-requires-clause-small : goal.write_rules-requires-clause-small
@@ -43,14 +41,14 @@ pub returns : goal.returns
 returns g c =
     let ws = g.S.WindowStore.windows c.args.store.now in
     let book = c.args.book.now in
-    let words = c.take_windows.new.page in
+    let words = c.take_season.new.page in
     let lots = c.lots-lots.result in
     let rules = c.rules-rules.result in
-    let same : take lots (paired words) ≡ ws = ap (λ n. take n (paired words)) c.lots-lots.ensures ∙ c.take_windows.ensures.copied in
+    let same : take lots (paired words) ≡ ws = ap (λ n. take n (paired words)) c.lots-lots.ensures ∙ c.in_ok-take_season.ensures.copied in
     let long : 4 * lots + 8 * rules + 8 ≡ length (file_of ws (rules_of book)) = omega (arith, length_file ws (rules_of book), c.lots-lots.ensures) in
     let lots_are : c.write_numbers.new.bytes ≡ lots_bytes ws =
     c.write_numbers.ensures ∙ sym (lots_numbers lots (take (2 * lots) words) (length-take-le (2 * lots) words (omega arith))) ∙ ap lots_bytes (paired_front lots words (omega arith) ∙ same) in
-    let good = subst (AllByRecursion Sound) (c.in_ok-new.ensures ∙ c.take_windows.ensures.taken) c.in_ok-new.field-0.sound in
+    let good = subst (AllByRecursion Sound) c.in_ok-take_season.ensures.taken c.in_ok-take_season.field-0.sound in
     written (omega (arith, c.lots-lots.ensures)) (omega (arith, c.lots-lots.ensures)) good (omega arith) (omega (arith, rules_length book, book.few)) (ap Ok long)
     (file_written c.args.bytes.now c.write_numbers.new.bytes c.write_rules.new.bytes c.copy_from_slice.new.self ws (rules_of book) lots rules _ _ c.lots-lots.ensures c.rules-rules.ensures (omega arith) (omega arith) (omega arith)
     lots_are (c.write_rules.ensures ∙ ap rules_bytes c.rows.ensures) (c.copy_from_slice.ensures.after ∙ c.trailer_record.ensures))
