@@ -1,4 +1,4 @@
-// C calls to the counting functions, for the benchmark under bench/. Windows are words, low and high of each lot in turn.
+// C calls to the counting functions, for the benchmark under bench/: C has no `Result`, so 0 stands for a refusal. Windows are words, low and high of each lot in turn.
 #![tactic(auto)]
 
 pub mod planning;

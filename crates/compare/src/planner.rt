@@ -43,6 +43,7 @@ pub fn planned(alloc: Global, sheet: &Small) -> Result<Option<Vec<u32>>, AllocEr
     Ok(answer.ok().map(|_| days))
 }
 
+// A house has words, low and high of each lot in turn.
 fn words_of(alloc: Global, windows: &[Window]) -> Result<Vec<u32>, AllocError> {
     windows
         .iter()

@@ -47,7 +47,7 @@ fn place_lots(season: Season, order: &[Slot], days: &mut [u32], runs: &mut [Wind
     most
 }
 
-// One lot's turn, and the day that it gets: the first free one of its window, or where none is free the window's first.
+// One lot's turn (a single window is sound by a clause: a type for it would be converted at each read of a slice), and the day that it gets: the first free one of its window, or where none is free the window's first.
 // Then the run of taken days that ends with the window shows that the lot is left over.
 fn place_lot(window: Window, taken: &mut [bool; DAYS], runs: &mut [Window], most: &mut Most) -> u32
     requires sound { Sound window }

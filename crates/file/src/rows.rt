@@ -11,7 +11,7 @@ use sheet::book::Book;
 use sheet::slip::Draft;
 use sheet::start::add_rows;
 
-// One more than a book holds: so of more rules than that, one among these is refused.
+// One more than a book holds: so of more rules than that, one among these is refused. A fixed room, since the planner takes no memory.
 const ROWS: usize = 33;
 
 // Adds the rules that the bytes hold, eight bytes each. An incomplete record at the end is no rule.

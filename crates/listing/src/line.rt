@@ -1,4 +1,4 @@
-// Lines: each writer writes to the front of the bytes that it is lent, lends the rest on, and answers how many bytes it wrote; the bytes past them stay.
+// Lines. They go into bytes that the caller lends, where `write!` would want a writer of its own and its error: each writer writes to the front of the bytes that it is lent, lends the rest on, and answers how many bytes it wrote; the bytes past them stay.
 ghost use Rattle.std.specs.Prelude.{◌≡◌, ◌+◌, ◌≤◌, length, decimal};
 ghost use Rattle.listing.specs.Text.{count_line, entry, lot_line, over, pair_line};
 

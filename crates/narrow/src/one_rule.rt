@@ -24,7 +24,9 @@ pub(crate) fn tighten_rule(problem: &mut Problem, number: usize) -> Result<(), I
     ensures stepped { MatchResult result (λ _. Stepped (windows_of problem.old) (rules_in problem.old) number (windows_of problem.new) (rules_in problem.new)) (λ _. NoFirm (windows_of problem.old) (rules_in problem.old)) }
     ensures lots { lots_of problem.new.book ≡ lots_of problem.old.book }
 {
-    let rule = problem.book.rule(number).ok_or(Inconsistent)?;
+    let Some(rule) = problem.book.rule(number) else {
+        return Err(Inconsistent);
+    };
     let count = tighten_stretch(&mut problem.windows, rule)?;
     if problem.book.narrow(number, count) {
         Ok(())

@@ -5,8 +5,8 @@ ghost use Rattle.std.specs.Prelude.{◌≡◌, ℕ, ◌<◌, length, slice_index
 pub const WORDS: usize = 4096;
 
 // A guard over lent words: its end zeroes them, on every way out.
-// That a page has 4,096 words is asked by each function that takes one, and not held by the guard: a guard that is passed on by value is not covered by today's
-// borrow check, and behind a `&mut` its words would no longer be known for those that were lent.
+// That a page has 4,096 words is asked by each function that takes one. A guard that holds it can't be passed on by value (its borrow is not covered), and behind a
+// `&mut` its words are no longer known for those that were lent; an array, `&mut [u32; 4096]`, has no known length any more once such a function returns.
 pub struct Page<'a> {
     pub words: &'a mut [u32],
 }

@@ -35,7 +35,7 @@ pub fn plan<S: WindowStore>(
     plan_on(slip, store, book, answer, &mut work[0..WORDS])
 }
 
-// The same on a page of working words, which is zero afterwards.
+// The same on a page of working words, which is zero afterwards: what holds on every way out is promised once, here.
 fn plan_on<S: WindowStore>(
     slip: &Closed,
     store: &S,

@@ -39,7 +39,7 @@ pub fn settle<S: WindowStore>(
     settle_on(slip, store, book, &mut work[0..WORDS])
 }
 
-// The same on a page of working words, which is zero afterwards.
+// The same on a page of working words, which is zero afterwards: what holds on every way out is promised once, here.
 fn settle_on<S: WindowStore>(
     slip: &Closed,
     store: &mut S,

@@ -28,7 +28,7 @@ pub fn hunt(problem: &mut Problem, due: Due) -> Result<(), Infeasible>
     pick(problem)
 }
 
-// The same where windows and rules are settled.
+// The same where windows and rules are settled. That they are (`Firm`) names choices, so it is no proposition that a ghost field could hold.
 #[cycle(hunt_pick_try_days_try_low)]
 fn pick(problem: &mut Problem) -> Result<(), Infeasible>
     requires firm { Firm (windows_of problem.old) (rules_in problem.old) }

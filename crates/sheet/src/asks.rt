@@ -30,7 +30,7 @@ pub fn not_before<S: WindowStore>(
     answered(lot, store.raise(lot, day))
 }
 
-// A lot is to be extracted on a day or earlier.
+// A lot is to be extracted on a day or earlier: the mirror image, by the store's other call.
 pub fn not_after<S: WindowStore>(
     slip: &Closed,
     store: &mut S,
@@ -66,7 +66,7 @@ pub fn at_least(slip: &Closed, book: &mut Book, rule: usize, number: u32) -> Res
     Ok(())
 }
 
-// A rule's stretch is to take this many different days or fewer.
+// A rule's stretch is to take this many different days or fewer: the mirror image, by the other end of the count window.
 pub fn at_most(slip: &Closed, book: &mut Book, rule: usize, number: u32) -> Result<(), SheetFault>
     ensures { AtMost rule number slip.now book.old result book.new }
 {

@@ -101,7 +101,7 @@ impl fmt::Display for SheetFault {
     }
 }
 
-// What a store answered about a lot: a refusal names the lot.
+// What a store answered about a lot: a refusal names the lot, which only the caller knows, so that no `From` can add it.
 pub fn about_lot(lot: usize, answer: Result<(), StoreFault>) -> Result<(), StoreRefusal>
     ensures { result ≡ at_lot lot answer }
 {

@@ -11,8 +11,6 @@ pub enum SlipState {
     Asking,
 }
 
-// Two types rather than one that is generic in its state: specifications cannot name a type alias, and a trait with two types for the states would be longer than the four methods of a line that both have.
-
 // With a draft slip rules are added. A type of its own beside the closed slip, though both have the same numbers: contracts name either, and one generic slip would put two
 // marker types, a trait that tells their states and a field for the marker in place of four short methods.
 pub struct Draft {
