@@ -1,6 +1,5 @@
 use Rattle.std.proofs.Common.{Ok, refl, ap, ap₂}
 use Rattle.std.proofs.lemmas.Result.{err_from_is_err_and}
-use Rattle.sheet.specs.declared.slip.Closed.{Closed}
 use Rattle.sheet.specs.Drafts.{not_started, not_added, opened}
 use Rattle.sheet.proofs.start.closed.Goals as goal
 
