@@ -77,6 +77,7 @@ impl<S: WindowStore> WindowStore for Dispatch<S> {
 
 // A day, if there is one, as days before dispatch. Saturating on purpose: no day lies after dispatch, so a later one shows as 0.
 // Whatever list the day is the last day of a lot in, the answer is the first day that the layer shows there; and the other way round.
+// No `From`: what a day shows as depends on the layer's last day.
 fn shown(last: u32, day: Option<u32>) -> Option<u32>
     ensures lows { (ws : List Window) (p : ℕ) → day ≡ high_at ws p → result ≡ low_at (map (window_before_dispatch last) ws) p }
     ensures highs { (ws : List Window) (p : ℕ) → day ≡ low_at ws p → result ≡ high_at (map (window_before_dispatch last) ws) p }

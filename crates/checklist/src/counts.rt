@@ -46,6 +46,7 @@ fn ask<S: WindowStore>(rt: &HostRuntime, house: &S) -> io::Result<()> {
     }
 }
 
+// A sentence of this program alone, so no `Display` of a library.
 fn show_choice(rt: &HostRuntime, answer: &[u32]) -> io::Result<()> {
     for (lot, day) in answer.iter().take(LOTS).enumerate() {
         println!(rt; "    lot {lot} on {day}")?;
@@ -53,6 +54,7 @@ fn show_choice(rt: &HostRuntime, answer: &[u32]) -> io::Result<()> {
     Ok(())
 }
 
+// A sentence of this program alone, so no `Display` of a library.
 fn show_lots(rt: &HostRuntime, answer: &[u32], few: usize) -> io::Result<()> {
     println!(rt; "  not fewer, since no two of these lots share a day")?;
     for lot in answer.iter().skip(LOTS).take(few) {
@@ -61,6 +63,7 @@ fn show_lots(rt: &HostRuntime, answer: &[u32], few: usize) -> io::Result<()> {
     Ok(())
 }
 
+// A sentence of this program alone, so no `Display` of a library.
 fn show_runs(rt: &HostRuntime, answer: &[u32], runs: usize) -> io::Result<()> {
     if runs == 0 {
         return println!(rt; "  not more, since there are no more lots");

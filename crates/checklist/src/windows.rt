@@ -88,6 +88,7 @@ pub fn masked(rt: &HostRuntime, masks: &mut [u64]) -> io::Result<()> {
 }
 
 // By the lots' numbers, as a store answers. The other checklist has the same lines: two programs share no library for so few.
+// It goes through a store, and no store has a text of its own.
 fn show<S: WindowStore>(rt: &HostRuntime, house: &S) -> io::Result<()> {
     for lot in 0..house.lots() {
         if let Some(window) = read_window(house, lot) {
@@ -97,6 +98,7 @@ fn show<S: WindowStore>(rt: &HostRuntime, house: &S) -> io::Result<()> {
     Ok(())
 }
 
+// A sentence of this program alone, so no `Display` of a library.
 fn told(rt: &HostRuntime, answer: Result<(), StoreFault>) -> io::Result<()> {
     match answer {
         Ok(()) => println!(rt; "  accepted"),

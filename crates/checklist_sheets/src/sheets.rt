@@ -93,6 +93,7 @@ fn ask(words: &mut [u32], book: &mut Book) -> Result<Asked, SheetFault> {
     })
 }
 
+// A sentence of this program alone, so no `Display` of a library.
 fn tell(rt: &HostRuntime, added: Result<usize, SheetFault>) -> io::Result<()> {
     match added {
         Ok(number) => println!(rt; "  accepted, with the number {number}"),

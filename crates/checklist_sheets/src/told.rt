@@ -6,6 +6,7 @@ use std::io;
 use store::store::{WindowStore, read_window};
 
 // By the lots' numbers, as a store answers. The other checklist has the same lines: two programs share no library for so few.
+// It goes through a store, and no store has a text of its own.
 pub fn show_windows<S: WindowStore>(rt: &HostRuntime, house: &S) -> io::Result<()> {
     for lot in 0..house.lots() {
         if let Some(window) = read_window(house, lot) {
@@ -15,6 +16,7 @@ pub fn show_windows<S: WindowStore>(rt: &HostRuntime, house: &S) -> io::Result<(
     Ok(())
 }
 
+// A sentence of this program alone, so no `Display` of a library.
 pub fn show_rules(rt: &HostRuntime, book: &Book) -> io::Result<()> {
     for (number, row) in book.rows().iter().enumerate() {
         let Row {
@@ -30,6 +32,7 @@ pub fn show_rules(rt: &HostRuntime, book: &Book) -> io::Result<()> {
     Ok(())
 }
 
+// A sentence of this program alone, so no `Display` of a library.
 pub fn show_days(rt: &HostRuntime, days: &[u32]) -> io::Result<()> {
     for (lot, day) in days.iter().enumerate() {
         println!(rt; "    lot {lot} on {day}")?;
@@ -37,6 +40,7 @@ pub fn show_days(rt: &HostRuntime, days: &[u32]) -> io::Result<()> {
     Ok(())
 }
 
+// A sentence of this program alone, so no `Display` of a library.
 pub fn show_outcome(rt: &HostRuntime, outcome: Outcome) -> io::Result<()> {
     match outcome {
         Outcome::Asked(Ok(())) => println!(rt; "  accepted"),

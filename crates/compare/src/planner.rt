@@ -52,6 +52,7 @@ fn words_of(alloc: Global, windows: &[Window]) -> Result<Vec<u32>, AllocError> {
 }
 
 // The windows of a store and the rules of a book.
+// No `From`: they are read from a store, as a house reads them.
 fn read_back<S: WindowStore>(alloc: Global, house: &S, book: &Book) -> Result<Small, AllocError> {
     Ok(Small {
         windows: (0..house.lots())

@@ -48,6 +48,7 @@ impl Question for LeastCount {
 }
 
 // Writes the numbers of lots that are given by their places in the stretch.
+// That `numbers` is as long as `places` is a clause: the two come from different hands, so no one type can hold both.
 fn number_lots(places: &[u32], first: u32, numbers: &mut [u32])
     requires each { length numbers.old ≡ length places.now }
     requires small { AllByRecursion (λ p. p < 256) places.now }

@@ -29,16 +29,6 @@ pub record Pointed (ws : List Window) (order : List (ℕ × ℕ)) (days lots : L
   pub apart : (i j : ℕ) → i < j → j < count → (window_at ws (get_or lots i 0)).high < (window_at ws (get_or lots j 0)).low
   pub served : (k : ℕ) → k < t → Served ws lots count (get_or order k (0, 0)).1 (get_or days (get_or order k (0, 0)).1 0)
 
-pub pointed_none : (ws : List Window) (order : List (ℕ × ℕ)) (days lots : List ℕ) → Pointed ws order days lots 0 0 0
-pointed_none ws order days lots = record {
-  few = omega arith;
-  past = λ h. absurd (omega arith);
-  last = λ h. absurd (omega arith);
-  there = λ j h. absurd (omega arith);
-  apart = λ i j h k. absurd (omega arith);
-  served = λ k h. absurd (omega arith);
-}
-
 module _ (ws : List Window) (order : List (ℕ × ℕ)) (days lots : List ℕ) (t count point : ℕ) (p : Pointed ws order days lots t count point)
     (sound : AllByRecursion Sound ws) (shuffled : IsPermutation (slots 0 ws) order) (rises : IsNonDecreasingBy (λ s. s.0) order) (in' : t < length ws)
     (day_each : length days ≡ length ws) (room : length ws ≤ length lots) where

@@ -20,6 +20,7 @@ pub struct Most {
 }
 
 // Writes a choice with the most different days, and the runs that show that no choice has more.
+// That `days` is as long as the season is a clause: the two come from different hands, so no one type can hold both.
 pub fn most_of(season: Season, days: &mut [u32], runs: &mut [Window]) -> Most
     requires day_each { length days.old ≡ length season.windows.now }
     requires run_room { length season.windows.now ≤ length runs.old }

@@ -14,6 +14,7 @@ pub fn flip_day(day: u32) -> u32
 }
 
 // Writes the mirror image of each window.
+// That `image` is as long as `windows` is a clause: the two come from different hands, so no one type can hold both.
 fn mirror_windows(windows: &[Window], image: &mut [Window])
     requires { length image.old ≡ length windows.now }
     ensures { image.new ≡ map mirrored windows.now }

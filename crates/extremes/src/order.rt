@@ -22,6 +22,7 @@ pub fn by_last_day<'a>(season: Season, room: &'a mut [Slot; LOTS]) -> &'a [Slot]
     order
 }
 
+// That `order` is as long as `windows` is a clause: the two come from different hands, so no one type can hold both.
 fn fill_slots(windows: &[Window], order: &mut [Slot])
     requires { length order.old ≡ length windows.now }
     ensures { order.new ≡ slots 0 windows.now }

@@ -10,6 +10,7 @@ use store::limits::LOTS;
 use store::season::Season;
 
 // Writes a choice with the fewest different days, and as many lots whose windows share no day pairwise.
+// That `days` is as long as the season is a clause: the two come from different hands, so no one type can hold both.
 pub fn fewest_of(season: Season, days: &mut [u32], lots: &mut [u32]) -> usize
     requires day_each { length days.old ≡ length season.windows.now }
     requires lot_room { length season.windows.now ≤ length lots.old }

@@ -3,8 +3,7 @@ use Rattle.std.proofs.Common.{◌≡◌, ℕ, ◌<◌, ◌≤◌, length, sym, s
 use Rattle.std.specs.List.{AllByRecursion}
 use Rattle.std.proofs.ByRecursion.{All-from_get_or}
 use Rattle.sheet.specs.declared.book.Book.{Book}
-use Rattle.sheet.specs.declared.rule.Rule.{Rule}
-use Rattle.sheet.specs.Books.{lots_of, plain, row, rule_at, rules_of}
+use Rattle.sheet.specs.Books.{lots_of, row, rule_at, rules_of}
 use Rattle.sheet.specs.Fits.{Fits}
 use Rattle.sheet.proofs.Books.{rules_at, rules_length}
 
@@ -12,10 +11,6 @@ pub rule_fits : (book : Book) (k : ℕ) → k < length (rules_of book) → Fits 
 rule_fits book k h =
     let used : k < book.used = omega (arith, rules_length book) in
     subst (Fits (lots_of book)) (sym (rules_at book k used)) (book.kept k (row 0 0 0 0) used)
-
--- so does a rule that was read from it
-pub plain_fits : (book : Book) (k : ℕ) (u : Rule) → k < length (rules_of book) → plain u ≡ rule_at (rules_of book) k → Fits (lots_of book) (plain u)
-plain_fits book k u h e = subst (Fits (lots_of book)) (sym e) (rule_fits book k h)
 
 pub rules_few : (book : Book) → length (rules_of book) ≤ 32
 rules_few book = omega (arith, rules_length book, book.few)

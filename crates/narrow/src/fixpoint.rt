@@ -14,6 +14,7 @@ use crate::one_rule::tighten_rule;
 use crate::problem::Problem;
 
 // Narrows windows and count windows to the greatest firm ones inside them. Where there are none, what is left of the problem means nothing.
+// That the lots stay is about two moments of one value, so a clause of each call that writes it.
 pub fn narrow_all(problem: &mut Problem) -> Result<(), Inconsistent>
     ensures narrowed { MatchResult result (λ _. GreatestFirm (windows_of problem.old) (rules_in problem.old) (windows_of problem.new) (rules_in problem.new)) (λ _. NoFirm (windows_of problem.old) (rules_in problem.old)) }
     ensures lots { lots_of problem.new.book ≡ lots_of problem.old.book }

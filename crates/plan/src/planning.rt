@@ -18,6 +18,7 @@ use store::limits::LOTS;
 use store::store::WindowStore;
 
 // Writes the earliest plan into the first answer words, one word a lot, and answers how many different days it has; refuses where there is no plan.
+// Slip, store, book, answer and working words are parameters of their own: plan only reads store and book and settle writes both, so no one struct could lend them for either.
 pub fn plan<S: WindowStore>(
     slip: &Closed,
     store: &S,

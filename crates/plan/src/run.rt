@@ -13,6 +13,7 @@ use store::store::WindowStore;
 
 // Makes one call after the other, each on what the one before left, and gives back what each answered. Memory for the answers is got first: where there is none,
 // nothing was called. Whatever the calls and their answers, the plans that are left are just those that meet every ask which was accepted.
+// Slip, store, book, answer and working words are parameters of their own: plan only reads store and book and settle writes both, so no one struct could lend them for either.
 pub fn make_calls<S: WindowStore>(
     heap: Global,
     slip: &Closed,
@@ -53,6 +54,7 @@ fn make_each<S: WindowStore>(
 }
 
 // Makes one call. A `match`, since a list of calls is plain values that a house hands over, and of no other kinds.
+// The clause `framed` is about the caller's store, before and after the call: no type of the planner holds that.
 pub fn make_call<S: WindowStore>(
     slip: &Closed,
     store: &mut S,

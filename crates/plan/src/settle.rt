@@ -21,6 +21,8 @@ use store::store::WindowStore;
 use store::window::Window;
 
 // Leaves the firm windows and count windows that contain all other firm ones inside those at entry; refuses where there are none.
+// The clauses `still` and `framed` are about the caller's store, before and after the call: no type of the planner holds that.
+// Slip, store, book, answer and working words are parameters of their own: plan only reads store and book and settle writes both, so no one struct could lend them for either.
 pub fn settle<S: WindowStore>(
     slip: &Closed,
     store: &mut S,

@@ -16,6 +16,7 @@ use nvalue::stretch::Stretch;
 use sheet::book::Book;
 
 // Writes the earliest plan of the windows that keeps every rule.
+// That `days` is as long as the problem's windows is a clause: the two come from different hands, so no one type can hold both.
 pub fn earliest_plan(problem: &Problem, days: &mut [u32]) -> Result<(), Infeasible>
     requires { length days.old ≡ length (windows_of problem.now) }
     ensures { MatchResult result (λ _. Earliest (windows_of problem.now) (rules_in problem.now) days.new) (λ _. NoPlan (windows_of problem.now) (rules_in problem.now)) }

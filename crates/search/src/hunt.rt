@@ -57,6 +57,7 @@ fn try_days(problem: &mut Problem, lot: usize) -> Result<(), Infeasible>
 }
 
 // Fixes the lot at its first day: then the first days of all windows are the earliest plan with that day. Where there is none, the problem stays.
+// That there is such a lot is about an argument, so a clause here and in what follows.
 #[cycle(hunt_pick_try_days_try_low)]
 fn try_low(problem: &mut Problem, lot: usize) -> Result<(), Infeasible>
     requires firm { Firm (windows_of problem.old) (rules_in problem.old) }

@@ -25,6 +25,7 @@ pub fn lows_keep(problem: &Problem) -> bool
 }
 
 // Writes the first day of each window. By number: of days written through a zipped iterator only their count would be known afterwards.
+// That `days` is as long as `windows` is a clause: the two come from different hands, so no one type can hold both.
 pub fn write_lows(windows: &[Window], days: &mut [u32])
     requires { length days.old ≡ length windows.now }
     ensures { days.new ≡ lows windows.now }

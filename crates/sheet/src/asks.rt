@@ -14,6 +14,7 @@ use store::limits::LAST_DAY;
 use store::store::WindowStore;
 
 // A lot is to be extracted on a day or later.
+// That a store whose windows stay is the same store, and that its frame stays, is a clause of every call that writes one: it is about a caller's memory, before and after, which no type of the sheet holds.
 pub fn not_before<S: WindowStore>(
     slip: &Closed,
     store: &mut S,
@@ -48,6 +49,7 @@ pub fn not_after<S: WindowStore>(
 }
 
 // What a house is told of a store's answer about a lot.
+// No `From`: the lot is the caller's.
 fn answered(lot: usize, answer: Result<(), StoreFault>) -> Result<(), SheetFault>
     ensures { result ≡ told lot answer }
 {

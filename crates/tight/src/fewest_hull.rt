@@ -14,6 +14,7 @@ use store::season::Season;
 use store::window::Window;
 
 // Finds the points from the left and, by the mirror image, from the right. Each pair of them bounds the days that can stand for one of the fewest.
+// That `hull` is as long as the season is a clause: the two come from different hands, so no one type can hold both.
 pub fn fewest_hull(season: Season, hull: &mut [Window])
     requires each { length hull.old ≡ length season.windows.now }
     ensures { Hull season.entry.windows.now (HasFewest season.entry.windows.now) hull.new }
@@ -46,6 +47,7 @@ fn points_of(season: Season, points: &mut [u32]) -> usize
 }
 
 // Writes the last day of each of some lots.
+// That `days` is as long as `lots` is a clause: the two come from different hands, so no one type can hold both.
 fn last_days(windows: &[Window], lots: &[u32], days: &mut [u32])
     requires there { AllByRecursion (λ lot. lot < length windows.now) lots.now }
     requires each { length days.old ≡ length lots.now }

@@ -10,6 +10,7 @@ use store::season::Season;
 use store::window::Window;
 
 // Writes for each lot the first day that a choice with the most different days gives to it.
+// That `firsts` is as long as the season is a clause: the two come from different hands, so no one type can hold both.
 pub fn first_days(season: Season, firsts: &mut [u32])
     requires each { length firsts.old ≡ length season.windows.now }
     ensures { FirstDays season.entry.windows.now firsts.new }

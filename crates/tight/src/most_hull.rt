@@ -11,6 +11,7 @@ use store::season::Season;
 use store::window::Window;
 
 // Writes for each lot the first and the last day that a choice with the most different days gives to it.
+// That `hull` is as long as the season is a clause: the two come from different hands, so no one type can hold both.
 pub fn most_hull(season: Season, hull: &mut [Window])
     requires each { length hull.old ≡ length season.windows.now }
     ensures { Hull season.entry.windows.now (HasMost season.entry.windows.now) hull.new }

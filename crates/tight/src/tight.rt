@@ -36,6 +36,7 @@ pub fn tighten(
 }
 
 // Writes the tightest windows, and answers the tightest count window; none where there is no such choice.
+// That `hull` is as long as the season is a clause: the two come from different hands, so no one type can hold both.
 fn tighten_season(season: Season, count: CountWindow, hull: &mut [Window]) -> Option<CountWindow>
     requires each { length hull.old ≡ length season.windows.now }
     ensures { MatchOption result ((ds : List ℕ) → Choice season.entry.windows.now ds → Counts count.floor count.ceiling ds → ⊥) (λ tight. Tightest season.entry.windows.now count.floor count.ceiling hull.new tight.floor tight.ceiling) }

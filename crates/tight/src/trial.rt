@@ -10,6 +10,7 @@ use store::season::Season;
 use store::window::Window;
 
 // True where a lot moves to a day and no different day is lost: its own day is another lot's too, it has the new one already, or no lot has that.
+// That there is such a lot is about an argument, so a clause here and in what follows.
 pub fn can_move(days: &[u32], lot: usize, day: u32) -> bool
     requires { lot < length days.now }
     ensures { result ≡ true → nvalue days.now ≤ nvalue (slice_set days.now lot day) }
@@ -54,6 +55,7 @@ pub fn best_before(season: Season, lot: usize, from: u32, end: u32, most: usize)
 }
 
 // Copies the windows, but leaves one lot just the days of a range.
+// That `narrowed` is as long as `windows` is a clause: the two come from different hands, so no one type can hold both.
 fn narrow_lot(windows: &[Window], lot: usize, range: Window, narrowed: &mut [Window])
     requires there { lot < length windows.now }
     requires each { length narrowed.old ≡ length windows.now }

@@ -83,6 +83,7 @@ impl<S: WindowStore> WindowStore for Period<S> {
 }
 
 // A day, if there is one, as the number of its period: the end that the layer shows of whatever list the day is an end in.
+// No `From`: what a day shows as depends on the layer's length.
 fn shown(length: PeriodLength, day: Option<u32>) -> Option<u32>
     ensures lows { (ws : List Window) (p : ℕ) → day ≡ low_at ws p → result ≡ low_at (map (in_periods length.days) ws) p }
     ensures highs { (ws : List Window) (p : ℕ) → day ≡ high_at ws p → result ≡ high_at (map (in_periods length.days) ws) p }
