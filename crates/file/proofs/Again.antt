@@ -13,6 +13,7 @@ use Rattle.sheet.proofs.Drafts.{each_rules}
 use Rattle.file.specs.declared.fault.FileFault.{FileFault}
 use Rattle.file.specs.declared.read.Contents.{Contents}
 use Rattle.file.specs.Format.{rules_bytes, file_of}
+use Rattle.file.specs.Laws.{WritesBack}
 use Rattle.file.specs.Reads.{Reads, no_sheet_file, trailer_disagrees, short_words, held}
 use Rattle.file.specs.Rows.{AddsBytes, adds, told}
 use Rattle.file.specs.Writes.{Writes, sheet_file, too_many_lots, mismatch, faulty_window, short_bytes, written}
@@ -36,7 +37,7 @@ all_stand rows slip was (Ok done) slip' is t (refused before after q mid book wh
 all_stand rows slip was (Ok done) slip' is t (all_added each _) = each_rules rows slip was slip' is each
 
 -- what writing gives where it answers a number
-written_file : (ws : List Window) (book : Book) (into : List ℕ) (n : ℕ) (out : List ℕ) → Writes ws book into (Ok n) out
+pub written_file : (ws : List Window) (book : Book) (into : List ℕ) (n : ℕ) (out : List ℕ) → Writes ws book into (Ok n) out
     → (n ≡ length (sheet_file ws book)) × (out ≡ sheet_file ws book ++ drop (length (sheet_file ws book)) into)
 written_file ws book into n out (too_many_lots _ e _) = cc
 written_file ws book into n out (mismatch _ _ e _) = cc
@@ -44,13 +45,13 @@ written_file ws book into n out (faulty_window _ _ _ _ e _) = cc
 written_file ws book into n out (short_bytes _ _ _ _ e _) = cc
 written_file ws book into n out (written _ _ _ _ _ e is) = (cc, is)
 
-module _ (file words is : List ℕ) (h : Contents) (slip : Draft) (was : Book) (slip' : Draft) (book : Book) (into : List ℕ) (n : ℕ) (out : List ℕ) where
-  pub written_again : Reads file words (Ok h) is → rules_of was ≡ [] → AddsBytes h.rows.now slip was (Ok tt) slip' book → Writes (paired (take (2 * h.lots) is)) book into (Ok n) out
+module _ (file words is : List ℕ) (h : Contents) where
+  again : (slip : Draft) (was : Book) (slip' : Draft) (book : Book) (into : List ℕ) (n : ℕ) (out : List ℕ) → Reads file words (Ok h) is → rules_of was ≡ [] → AddsBytes h.rows.now slip was (Ok tt) slip' book → Writes (paired (take (2 * h.lots) is)) book into (Ok n) out
       → (n ≡ length file) × (out ≡ file ++ drop (length file) into)
-  written_again (no_sheet_file _ e _) empty added writes = cc
-  written_again (trailer_disagrees _ _ e _) empty added writes = cc
-  written_again (short_words _ _ _ e _) empty added writes = cc
-  written_again (held ws rows k _ _ _ _ _ file-is _ _ ok lots _ part words_are _) empty added writes =
+  again slip was slip' book into n out (no_sheet_file _ e _) empty added writes = cc
+  again slip was slip' book into n out (trailer_disagrees _ _ e _) empty added writes = cc
+  again slip was slip' book into n out (short_words _ _ _ e _) empty added writes = cc
+  again slip was slip' book into n out (held ws rows k _ _ _ _ _ file-is _ _ ok lots _ part words_are _) empty added writes =
       let same : h ≡ k = cc in
       let bytes : h.rows.now ≡ rules_bytes rows = ap (λ x. x.rows.now) same ∙ part in
       let windows : paired (take (2 * h.lots) is) ≡ ws = ap (λ m. paired (take (2 * m) is)) (ap (λ x. x.lots) same ∙ lots) ∙ words_are in
@@ -59,3 +60,6 @@ module _ (file words is : List ℕ) (h : Contents) (slip : Draft) (was : Book) (
       let whole : sheet_file (paired (take (2 * h.lots) is)) book ≡ file = ap₂ file_of windows rules ∙ sym file-is in
       let result = written_file (paired (take (2 * h.lots) is)) book into n out writes in
       (result.0 ∙ ap length whole, result.1 ∙ ap (λ f. f ++ drop (length f) into) whole)
+
+  pub written_again : Reads file words (Ok h) is → WritesBack file h is
+  written_again reads slip was slip' book into n out = again slip was slip' book into n out reads

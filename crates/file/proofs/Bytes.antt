@@ -1,16 +1,10 @@
 -- Numbers, lots and rules in bytes, taken apart and put together again.
-use Rattle.std.proofs.Common.{◌≡◌, ℕ, ◌+◌, ◌*◌, ◌/◌, ◌%◌, ◌<◌, ◌≤◌, List, [], ◌∷◌, ◌++◌, length, get_or, take, refl, ap, ap₂, arith}
+use Rattle.std.proofs.Common.{◌≡◌, ℕ, ◌+◌, ◌*◌, ◌<◌, ◌≤◌, List, [], ◌∷◌, ◌++◌, length, get_or, take, refl, ap, ap₂, arith}
 use Rattle.store.specs.declared.window.Window.{Window}
 use Rattle.rules.specs.declared.row.Row.{Row}
 use Rattle.sheet.specs.Books.{row}
-use Rattle.file.specs.Format.{two, rule_bytes, lots_bytes, rules_bytes}
-
--- two bytes make a number, and the number's bytes are these two
-pub two_back : (a b : ℕ) → a < 256 → two (a + 256 * b) ≡ a ∷ b ∷ []
-two_back a b h =
-    let low : (a + 256 * b) % 256 ≡ a = omega arith in
-    let high : (a + 256 * b) / 256 ≡ b = omega arith in
-    ap₂ (λ x y. x ∷ y ∷ []) low high
+use Rattle.wire.proofs.Records.{two_back}
+use Rattle.file.specs.Format.{rule_bytes, lots_bytes, rules_bytes}
 
 pub length_lots : (ws : List Window) → length (lots_bytes ws) ≡ 4 * length ws
 length_lots [] = refl

@@ -1,10 +1,9 @@
 -- One text written behind another is both of them written.
-use Rattle.std.proofs.Common.{◌≡◌, ℕ, ◌+◌, ◌*◌, ◌<◌, ◌≤◌, List, [], ◌++◌, length, get_or, take, drop, sym, ap, ◌∙◌, subst, ap₂, arith}
-use Rattle.std.specs.List.{flat_map, AllByRecursion}
+use Rattle.std.proofs.Common.{◌≡◌, ℕ, ◌+◌, ◌*◌, ◌<◌, ◌≤◌, List, ◌++◌, length, take, drop, sym, ap, ◌∙◌, subst, ap₂, arith}
+use Rattle.std.specs.List.{AllByRecursion}
 use borrow.Rule.Slice.PartMut.{put_mid}
 use Rattle.std.proofs.ByRecursion.{All-from_get_or}
-use Rattle.std.proofs.lemmas.Slice.{take-put_mid}
-use Rattle.std.proofs.lemmas.List.{append_assoc, drop_at, drop-drop, flat_map_more, length-append, length-take-le, take_at, take_more}
+use Rattle.std.proofs.lemmas.List.{append_assoc, drop_at, drop-drop, length-append, length-take-le, take_at}
 use Rattle.store.specs.declared.window.Window.{Window}
 use Rattle.rules.specs.declared.row.Row.{Row}
 use Rattle.sheet.specs.declared.book.Book.{Book}
@@ -36,12 +35,6 @@ module _ (was mid is : List ℕ) (n m : ℕ) (xs ys : List ℕ) where
       ∙ ap₂ (λ x y. x ++ (ys ++ y)) before after
       ∙ append_assoc (take n was) xs (ys ++ drop (n + length (xs ++ ys)) was)
       ∙ ap (λ t. take n was ++ t) (sym (append_assoc xs ys (drop (n + length (xs ++ ys)) was)))
-
--- one more record of a list, behind those that stand there
-pub record_written : {X : Type 0} (f : X → List ℕ) (xs : List X) (d : X) (i n m k : ℕ) (bytes part : List ℕ) → i < length xs → n ≤ length bytes → m ≡ n + length part
-    → take n bytes ≡ flat_map f (take i xs) → part ≡ f (get_or xs i d) → take m (put_mid n k bytes part) ≡ flat_map f (take (i + 1) xs)
-record_written f xs d i n m k bytes part h room place was one =
-    take-put_mid n k bytes part m place room ∙ ap₂ (λ x y. x ++ y) was one ∙ flat_map_more f [] (take i xs) (get_or xs i d) ∙ ap (flat_map f) (sym (take_more xs i d h))
 
 -- a part of the bytes that was lent on
 pub over_part : (was : List ℕ) (n k : ℕ) (xs : List ℕ) → length xs ≡ k → put_mid n k was xs ≡ over was n xs

@@ -6,9 +6,11 @@ use Rattle.store.specs.Pairs.{paired}
 use Rattle.rules.specs.declared.row.Row.{Row}
 use Rattle.sheet.specs.Books.{row}
 use Rattle.file.specs.declared.read.Contents.{Contents}
-use Rattle.file.specs.Format.{two, rule_bytes, lots_bytes, rules_bytes, trailer, file_of, Small, SmallRule}
+use Rattle.wire.specs.Numbers.{two, Small}
+use Rattle.file.specs.Format.{rule_bytes, lots_bytes, rules_bytes, trailer, file_of, SmallRule}
 use Rattle.file.specs.Reads.{Reads, Ends, Agrees, end_byte, place_in, lots_in, rules_in, held}
-use Rattle.file.proofs.Bytes.{eight, length_lots, rule_back, two_back}
+use Rattle.wire.proofs.Records.{two_back}
+use Rattle.file.proofs.Bytes.{eight, length_lots, rule_back}
 use Rattle.file.proofs.Records.{length_numbers, lots_numbers, small_lots}
 
 -- the number at a place of some bytes

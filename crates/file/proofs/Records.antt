@@ -4,7 +4,8 @@ use Rattle.std.specs.List.{flat_map, AllByRecursion}
 use Rattle.store.specs.Pairs.{paired}
 use Rattle.store.specs.Sound.{Sound}
 use Rattle.store.specs.Windows.{window}
-use Rattle.file.specs.Format.{two, lots_bytes, Small, SmallLot}
+use Rattle.wire.specs.Numbers.{two, Small}
+use Rattle.file.specs.Format.{lots_bytes, SmallLot}
 
 pub length_numbers : (ns : List ℕ) → length (flat_map two ns) ≡ 2 * length ns
 length_numbers [] = refl

@@ -1,15 +1,14 @@
 -- A file has just one sheet, and its trailer tells the truth.
-use Rattle.std.proofs.Common.{◌≡◌, ℕ, ◌+◌, ◌-◌, ◌*◌, ◌/◌, ◌%◌, ◌≤◌, List, [], ◌∷◌, ◌++◌, length, get_or, take, drop, Ok, Result, sym, refl, ap, ◌∙◌, ap₂, arith}
+use Rattle.std.proofs.Common.{◌≡◌, ℕ, ◌+◌, ◌-◌, ◌*◌, ◌/◌, ◌%◌, ◌≤◌, List, [], ◌∷◌, ◌++◌, length, get_or, take, drop, sym, refl, ap, ◌∙◌, ap₂, arith}
 use Rattle.std.proofs.lemmas.List.{append_assoc, drop_at, length-append, take_at}
 use Rattle.store.specs.declared.window.Window.{Window}
 use Rattle.store.specs.Windows.{window}
 use Rattle.store.specs.Pairs.{paired}
 use Rattle.rules.specs.declared.row.Row.{Row}
 use Rattle.sheet.specs.Books.{row}
-use Rattle.file.specs.declared.fault.FileFault.{FileFault}
-use Rattle.file.specs.declared.read.Contents.{Contents}
 use Rattle.file.specs.Format.{lots_bytes, rules_bytes, trailer, file_of}
-use Rattle.file.specs.Reads.{Reads, Ends, Agrees, lots_in, rules_in, place_in, no_sheet_file, trailer_disagrees, short_words, held}
+use Rattle.file.specs.Laws.{ReadsBack}
+use Rattle.file.specs.Reads.{Ends, Agrees, lots_in, rules_in, place_in, no_sheet_file, trailer_disagrees, short_words, held}
 use Rattle.file.proofs.Bytes.{length_lots, length_rules}
 
 -- a number is its two bytes
@@ -86,12 +85,11 @@ file_agrees ws rows few some =
     let long = length_file ws rows in
     (lots, (omega arith, omega arith, omega arith, omega arith))
 
-module _ (vs : List Window) (qs : List Row) (was : List ℕ) (r : Result Contents FileFault) (is : List ℕ) (few : length vs ≤ 256) (some : length qs ≤ 32) (room : 2 * length vs ≤ length was) where
-  pub read_back : Reads (file_of vs qs) was r is
-      → (h : Contents) × (r ≡ Ok h) × (h.lots ≡ length vs) × (h.rules ≡ length qs) × (h.rows.now ≡ rules_bytes qs) × (paired (take (2 * length vs) is) ≡ vs)
-  read_back (no_sheet_file no_end _ _) = absurd (no_end (file_ends vs qs))
-  read_back (trailer_disagrees _ differs _ _) = absurd (differs (file_agrees vs qs few some).1)
-  read_back (short_words _ _ short _ _) = absurd (omega (arith, (file_agrees vs qs few some).0))
-  read_back (held ws rows h _ _ _ _ _ file_is _ _ ok lots rules part words _) =
+module _ (vs : List Window) (qs : List Row) (few : length vs ≤ 256) (some : length qs ≤ 32) where
+  pub read_back : ReadsBack vs qs (file_of vs qs)
+  read_back was r is room (no_sheet_file no_end _ _) = absurd (no_end (file_ends vs qs))
+  read_back was r is room (trailer_disagrees _ differs _ _) = absurd (differs (file_agrees vs qs few some).1)
+  read_back was r is room (short_words _ _ short _ _) = absurd (omega (arith, (file_agrees vs qs few some).0))
+  read_back was r is room (held ws rows h _ _ _ _ _ file_is _ _ ok lots rules part words _) =
       let same = one_sheet vs ws qs rows file_is in
       (h, ok, lots ∙ sym (ap length same.0), rules ∙ sym (ap length same.1), part ∙ sym (ap rules_bytes same.1), ap (λ xs. paired (take (2 * length xs) is)) same.0 ∙ words ∙ sym same.0)

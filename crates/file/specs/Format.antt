@@ -1,11 +1,9 @@
 -- A sheet file. Every number has two bytes, the low one first. First come the lots, four bytes each, then the rules, eight bytes each, then a trailer of eight bytes.
-use Rattle.std.specs.Prelude.{ℕ, ◌*◌, ◌/◌, ◌%◌, ◌<◌, List, [], ◌∷◌, ◌++◌, length}
+use Rattle.std.specs.Prelude.{ℕ, ◌*◌, List, [], ◌∷◌, ◌++◌, length}
 use Rattle.std.specs.List.{flat_map}
+use Rattle.wire.specs.Numbers.{two, Small}
 use Rattle.store.specs.declared.window.Window.{Window}
 use Rattle.rules.specs.declared.row.Row.{Row}
-
-abbrev pub two : ℕ → List ℕ
-two n = n % 256 ∷ n / 256 ∷ []
 
 abbrev pub lot_bytes : Window → List ℕ
 lot_bytes w = two w.low ++ two w.high
@@ -27,9 +25,6 @@ abbrev pub file_of : List Window → List Row → List ℕ
 file_of ws rows = lots_bytes ws ++ (rules_bytes rows ++ trailer (length ws) (length rows))
 
 -- numbers that two bytes can hold
-abbrev pub Small : ℕ → Type 0
-Small n = n < 65536
-
 abbrev pub SmallLot : Window → Type 0
 SmallLot w = Small w.low × Small w.high
 

@@ -3,7 +3,6 @@
 
 pub mod fault;
 pub mod laws;
-mod numbers;
 pub mod read;
 pub mod rows;
 pub mod write;

@@ -1,12 +1,13 @@
 // Reading a sheet file: its windows become words, its rules stay the bytes that they are.
-ghost use Rattle.std.specs.Prelude.{◌≡◌, MatchResult};
+ghost use Rattle.std.specs.Prelude.{◌≡◌, IfOk, MatchResult};
+ghost use Rattle.file.specs.Laws.{WritesBack};
 ghost use Rattle.file.specs.Reads.{Reads, Ends, lots_in, rules_in, place_in};
 ghost use Rattle.file.specs.declared.fault.FileFault.TheVariants.{NoSheetFile};
 
 use crate::fault::FileFault;
-use crate::numbers::{number, read_numbers};
 use rules::row::RULES;
 use store::limits::LOTS;
+use wire::numbers::{number, read_numbers};
 
 // What a sheet file has: how many lots, how many rules, and the part of the file that holds the rules.
 #[derive(Clone, Copy)]
@@ -26,7 +27,8 @@ struct Trailer {
 
 // Fills two words for each lot, its low and its high, and answers where the rules are.
 pub fn read<'a>(file: &'a [u8], words: &mut [u32]) -> Result<Contents<'a>, FileFault>
-    ensures { Reads file.now words.old result words.new }
+    ensures reads { Reads file.now words.old result words.new }
+    ensures again { IfOk result (λ held. WritesBack file.now held words.new) }
 {
     let trailer = find_trailer(file)?;
     let lots = usize::from(trailer.lots);

@@ -5,11 +5,11 @@ ghost use Rattle.file.specs.Format.{rule_bytes, rules_bytes, SmallRule};
 ghost use Rattle.file.specs.Rows.{AddsBytes};
 
 use crate::fault::FileFault;
-use crate::numbers::number;
 use rules::row::Row;
 use sheet::book::Book;
 use sheet::slip::Draft;
 use sheet::start::add_rows;
+use wire::numbers::number;
 
 // One more than a book holds: so of more rules than that, one among these is refused. A fixed room, since the planner takes no memory.
 const ROWS: usize = 33;

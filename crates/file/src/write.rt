@@ -1,11 +1,12 @@
 // Writing a sheet file: the windows of a store and the rules of a book.
-ghost use Rattle.std.specs.Prelude.{◌≡◌, ◌*◌, ◌≤◌, length};
+ghost use Rattle.std.specs.Prelude.{◌≡◌, ◌*◌, ◌≤◌, IfOk, length, take};
+ghost use Rattle.sheet.specs.Books.{rules_of};
+ghost use Rattle.file.specs.Laws.{ReadsBack};
 ghost use Rattle.std.specs.List.{AllByRecursion};
 ghost use Rattle.file.specs.Format.{rule_bytes, rules_bytes, trailer, SmallRule};
 ghost use Rattle.file.specs.Writes.{Writes};
 
 use crate::fault::FileFault;
-use crate::numbers::write_numbers;
 use page::windows::take_season;
 use rules::row::Row;
 use sheet::book::Book;
@@ -13,10 +14,12 @@ use sheet::fault::SheetFault;
 use store::limits::LOTS;
 use store::store::WindowStore;
 use store::window::Window;
+use wire::numbers::write_numbers;
 
 // Writes the file into the first bytes, and answers how many they are.
 pub fn write<S: WindowStore>(book: &Book, store: &S, bytes: &mut [u8]) -> Result<usize, FileFault>
-    ensures { Writes (S.WindowStore.windows store.now) book.now bytes.old result bytes.new }
+    ensures writes { Writes (S.WindowStore.windows store.now) book.now bytes.old result bytes.new }
+    ensures again { IfOk result (λ n. ReadsBack (S.WindowStore.windows store.now) (rules_of book.now) (take n bytes.new)) }
 {
     let lots = store.lots();
     if lots > LOTS {

@@ -1,3 +1,4 @@
+pub mod Determined
 pub mod Files
 pub mod Planning
 pub mod Replies

@@ -7,13 +7,12 @@ use Rattle.rules.specs.declared.row.Row.{Row}
 use Rattle.rules.specs.Plans.{Earliest}
 use Rattle.file.specs.declared.fault.FileFault.{FileFault}
 use Rattle.file.specs.Faults.{number_of, place_of}
-use Rattle.file.specs.Format.{file_of}
 use Rattle.listing.specs.declared.fault.ListFault.{ListFault}
 use Rattle.listing.specs.Lists as lists
 use Rattle.listing.specs.Lists.{Lists, WritesRefusal}
 use Rattle.listing.specs.Text.{list_of, refusal_line}
 use Rattle.reply.specs.Files as files
-use Rattle.reply.specs.Files.{Accepted, PlansFile, PlansSheet}
+use Rattle.reply.specs.Files.{Accepted, PlansFile, Refuses}
 use Rattle.reply.specs.Replies as replies
 use Rattle.reply.specs.declared.reply.Replied.{Replied}
 use Rattle.reply.specs.declared.reply.Replied.TheVariants.{Plan, Refusal}
@@ -23,36 +22,18 @@ use Rattle.reply.specs.Replies.{Replies, Text}
 abbrev Made : List ℕ → List ℕ → ℕ → Type 0
 Made file is n = (ws : List Window) × (rows : List Row) × (ds : List ℕ) × Accepted file ws rows × Earliest ws rows ds × (take n is ≡ ds) × (length ds ≤ 256)
 
-sheet_made : (file was is : List ℕ) (n : ℕ) (ws : List Window) (rows : List Row) → length file ≤ 1288 → file ≡ file_of ws rows → length ws ≤ 256 → PlansSheet ws rows was (Ok n) is → Made file is n
-sheet_made file was is n ws rows short file_is few (files.PlansSheet.faulty_window _ _ e _) = cc
-sheet_made file was is n ws rows short file_is few (files.PlansSheet.rule_refused _ _ _ e _) = cc
-sheet_made file was is n ws rows short file_is few (files.PlansSheet.short_answer _ _ _ e _) = cc
-sheet_made file was is n ws rows short file_is few (files.PlansSheet.no_plan _ _ _ _ e _) = cc
-sheet_made file was is n ws rows short file_is few (files.PlansSheet.planned ds sound adds _ first e words) =
+pub text_made : (file was is : List ℕ) (n : ℕ) → PlansFile file was (Ok n) is → Made file is n
+text_made file was is n (files.PlansFile.refused _ _ r _) = cc
+text_made file was is n (files.PlansFile.planned ws rows ds accepted first _ r words) =
     let same : n ≡ length ws = cc in
     let long : length ds ≡ length ws = choice_length ws ds first.plan.choice in
     let days : take n is ≡ ds = ap (take n) words ∙ take_at ds (drop (length ws) was) n (long ∙ sym same) in
-    (ws, rows, ds, record { short = short; is = file_is; few = few; sound = sound; adds = adds }, first, days, omega arith)
+    (ws, rows, ds, accepted, first, days, omega (arith, accepted.holds.few_lots))
 
-pub text_made : (file was is : List ℕ) (n : ℕ) → PlansFile file was (Ok n) is → Made file is n
-text_made file was is n (files.PlansFile.too_long _ e _) = cc
-text_made file was is n (files.PlansFile.no_sheet_file _ _ e _) = cc
-text_made file was is n (files.PlansFile.trailer_disagrees _ _ _ e _) = cc
-text_made file was is n (files.PlansFile.sheet_planned ws rows short file_is few p) = sheet_made file was is n ws rows short file_is few p
-
--- a refusal writes no answer word
-sheet_same : (was is : List ℕ) (e : FileFault) (ws : List Window) (rows : List Row) → PlansSheet ws rows was (Err e) is → is ≡ was
-sheet_same was is e ws rows (files.PlansSheet.faulty_window _ _ _ s) = s
-sheet_same was is e ws rows (files.PlansSheet.rule_refused _ _ _ _ s) = s
-sheet_same was is e ws rows (files.PlansSheet.short_answer _ _ _ _ s) = s
-sheet_same was is e ws rows (files.PlansSheet.no_plan _ _ _ _ _ s) = s
-sheet_same was is e ws rows (files.PlansSheet.planned _ _ _ _ _ r _) = cc
-
-file_same : (file was is : List ℕ) (e : FileFault) → PlansFile file was (Err e) is → is ≡ was
-file_same file was is e (files.PlansFile.too_long _ _ s) = s
-file_same file was is e (files.PlansFile.no_sheet_file _ _ _ s) = s
-file_same file was is e (files.PlansFile.trailer_disagrees _ _ _ _ s) = s
-file_same file was is e (files.PlansFile.sheet_planned ws rows _ _ _ p) = sheet_same was is e ws rows p
+-- a file that was refused
+file_refuses : (file was is : List ℕ) (e : FileFault) → PlansFile file was (Err e) is → Refuses file (length was) e
+file_refuses file was is e (files.PlansFile.refused f h r _) = let same : f ≡ e = cc in subst (Refuses file (length was)) same h
+file_refuses file was is e (files.PlansFile.planned _ _ _ _ _ _ r _) = cc
 
 -- the number of bytes that was answered, told as a plan or as a refusal
 pub record Told (kind : ℕ → Replied) (r : Result ℕ ListFault) (s : Result Replied ListFault) : Type 0 where
@@ -79,7 +60,7 @@ module _ (file was is : List ℕ) (e : FileFault) (long : length was ≡ 256) (p
   line = refusal_line (number_of e) (place_of e)
 
   refused_text : Text file line (Refusal (length line))
-  refused_text = replies.Text.refusal e was long (subst (PlansFile file was (Err e)) (file_same file was is e p) p) refl refl
+  refused_text = replies.Text.refusal e (subst (λ n. Refuses file n e) long (file_refuses file was is e p)) refl refl
 
   -- the line of the refusal
   pub line_replied : (r : Result ℕ ListFault) (s : Result Replied ListFault) → Told Refusal r s → WritesRefusal (number_of e) (place_of e) out r now' → Replies file out s now'

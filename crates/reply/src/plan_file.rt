@@ -1,9 +1,9 @@
 // Planning a sheet file: its lots are read, its rules added, the sheet closed and planned.
-ghost use Rattle.std.specs.Prelude.{◌≡◌, ◌≤◌, List, length};
+ghost use Rattle.std.specs.Prelude.{◌≡◌, ℕ, List};
 ghost use Rattle.store.specs.Pairs.{paired};
 ghost use Rattle.rules.specs.declared.row.Row.{Row};
 ghost use Rattle.file.specs.Format.{rules_bytes};
-ghost use Rattle.reply.specs.Files.{PlansFile, PlansSheet};
+ghost use Rattle.reply.specs.Files.{Holds, PlansFile};
 
 use bottom::words::WordStore;
 use file::fault::FileFault;
@@ -33,8 +33,7 @@ pub fn plan_file(file: &[u8], answer: &mut [u32]) -> Result<usize, FileFault>
 
 // The same from the words of the lots and the bytes of the rules.
 fn plan_lots(words: &mut [u32], rows: &[u8], answer: &mut [u32]) -> Result<usize, FileFault>
-    requires { length (paired words.old) ≤ 256 }
-    ensures { (qs : List Row) → rows.now ≡ rules_bytes qs → PlansSheet (paired words.old) qs answer.old result answer.new }
+    ensures { (file : List ℕ) (qs : List Row) → Holds file (paired words.old) qs → rows.now ≡ rules_bytes qs → PlansFile file answer.old result answer.new }
 {
     let house = WordStore::new(words);
     let mut book = Book::empty(0);

@@ -1,5 +1,5 @@
 // What dayplan prints for a sheet file: the list of its plan, or the line of a refusal.
-ghost use Rattle.reply.specs.Replies.{Replies};
+ghost use Rattle.reply.specs.Replies.{OneText, Replies};
 
 use crate::plan_file::plan_file;
 use listing::fault::ListFault;
@@ -16,9 +16,10 @@ pub enum Replied {
     Refusal(usize),
 }
 
-// Writes the text into the first bytes of the output; where it does not fit, nothing is written.
+// Writes the text into the first bytes of the output; where it does not fit, nothing is written. No file has two texts.
 pub fn reply(file: &[u8], out: &mut [u8]) -> Result<Replied, ListFault>
-    ensures { Replies file.now out.old result out.new }
+    ensures replies { Replies file.now out.old result out.new }
+    ensures one { OneText file.now }
 {
     let mut days = [0; LOTS];
     match plan_file(file, &mut days) {

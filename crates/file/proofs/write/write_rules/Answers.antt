@@ -1,7 +1,7 @@
 use Rattle.std.proofs.Common.{◌≡◌, ◌+◌, ◌*◌, length, get_or, ap, ◌∙◌, arith}
 use Rattle.sheet.specs.Books.{row}
 use Rattle.file.specs.Format.{rule_bytes}
-use Rattle.file.proofs.Over.{record_written}
+use Rattle.wire.proofs.Records.{record_written}
 use Rattle.file.proofs.write.write_rules.Goals as goal
 
 pub loop-place-preserved : goal.loop-place-preserved

@@ -1,10 +1,10 @@
-// Numbers of two bytes, the low one first: all that a sheet file holds, but for the letters at its end.
+// Numbers of two bytes, the low one first, read and written.
 ghost use Rattle.std.specs.Prelude.{◌≡◌, ◌+◌, ◌*◌, length};
 ghost use Rattle.std.specs.List.{AllByRecursion, flat_map};
-ghost use Rattle.file.specs.Format.{two, Small};
+ghost use Rattle.wire.specs.Numbers.{two, Small};
 
 // Reads a number into each word.
-pub(crate) fn read_numbers(bytes: &[u8], words: &mut [u32])
+pub fn read_numbers(bytes: &[u8], words: &mut [u32])
     requires { length bytes.now ≡ 2 * length words.old }
     ensures bytes { flat_map two words.new ≡ bytes.now }
     ensures small { AllByRecursion Small words.new }
@@ -21,14 +21,14 @@ pub(crate) fn read_numbers(bytes: &[u8], words: &mut [u32])
 }
 
 // The number that two bytes hold.
-pub(crate) fn number(low: u8, high: u8) -> u16
+pub fn number(low: u8, high: u8) -> u16
     ensures { result ≡ low + 256 * high }
 {
     u16::from_le_bytes([low, high])
 }
 
 // Writes each word as a number.
-pub(crate) fn write_numbers(words: &[u32], bytes: &mut [u8])
+pub fn write_numbers(words: &[u32], bytes: &mut [u8])
     requires small { AllByRecursion Small words.now }
     requires room { length bytes.old ≡ 2 * length words.now }
     ensures { bytes.new ≡ flat_map two words.now }

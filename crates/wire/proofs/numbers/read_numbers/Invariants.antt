@@ -1,7 +1,7 @@
 use Rattle.std.proofs.Common.{◌≡◌, ◌+◌, ◌*◌, ◌++◌, length, take}
 use Rattle.std.specs.List.{flat_map, AllByRecursion}
-use Rattle.file.specs.Format.{two, Small}
-use Rattle.file.proofs.numbers.read_numbers.Given as goal
+use Rattle.wire.specs.Numbers.{two, Small}
+use Rattle.wire.proofs.numbers.read_numbers.Given as goal
 
 abbrev pub invariant-loop-word : goal.invariant-loop-word
 invariant-loop-word l = record {
