@@ -201,7 +201,23 @@ planned_or_refused file ws rows ds room e a first l r =
           planned_or_why ws rows ds room e a.sound a.fit first l (subst (λ qs. SheetWhy ws qs room e) same.1 (subst (λ vs. SheetWhy vs u.1 room e) same.0 u.3))
     ]
 
--- and has just one
+short_why : (ws : List Window) (rows : List Row) (room : ℕ) (e : FileFault) → AllByRecursion Sound ws → AllByRecursion (Fits (length ws)) rows → room < length ws → SheetWhy ws rows room e → e ≡ Sheet ShortAnswer
+short_why ws rows room e sound fit few (faulty p a _) = absurd (sound_or_faulty ws p sound a)
+short_why ws rows room e sound fit few (misfit why _ a _) = absurd (fit_or_misfit (length ws) rows why fit a)
+short_why ws rows room e sound fit few (no_room _ _ _ r) = r
+short_why ws rows room e sound fit few (none _ _ l _ _) = absurd (omega arith)
+
+-- where there is not, it is refused for that
+pub short_refused : (file : List ℕ) (ws : List Window) (rows : List Row) (room : ℕ) (e : FileFault) → Accepted file ws rows → room < length ws → Refuses file room e → e ≡ Sheet ShortAnswer
+short_refused file ws rows room e a few r =
+    elim (looked_at file room e r) [
+      | inl u ↦ absurd (unread_or_held file e ws rows u a.holds)
+      | inr u ↦
+          let same = holds_one file u.0 ws u.1 rows u.2 a.holds in
+          short_why ws rows room e a.sound a.fit few (subst (λ qs. SheetWhy ws qs room e) same.1 (subst (λ vs. SheetWhy vs u.1 room e) same.0 u.3))
+    ]
+
+-- a file has just one plan
 pub one_plan : (file : List ℕ) (ws vs : List Window) (rows qs : List Row) (xs ys : List ℕ) → Accepted file ws rows → Accepted file vs qs → Earliest ws rows xs → Earliest vs qs ys → xs ≡ ys
 one_plan file ws vs rows qs xs ys a b first other =
     let same = holds_one file vs ws qs rows b.holds a.holds in
