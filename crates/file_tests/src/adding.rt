@@ -18,6 +18,9 @@ const FIRST: Row = Row {
     ceiling: 2,
 };
 
+// A rule over lot 0 alone, from 0 to 1 days.
+const ONE_LOT: [u8; 8] = [0, 0, 1, 0, 0, 0, 1, 0];
+
 // What adding answers, how many rules the slip then has, and the book.
 #[derive(Drop)]
 struct Added {
@@ -71,8 +74,9 @@ fn rules_are_added_behind_those_that_stand(rt: HostRuntime) -> Result<(), Fail> 
 
 #[test]
 fn fewer_than_eight_bytes_are_no_rule(rt: HostRuntime) -> Result<(), Fail> {
+    let bytes = [1; 7];
     for length in 0..8 {
-        let none = add(&[1; 7][..length.min(7)])?;
+        let none = add(&bytes[..length])?;
         assert_eq!(rt; none.answer, Ok(()));
         assert_eq!(rt; (none.rules, none.book.rows()), (1, [FIRST].as_slice()));
     }
@@ -83,7 +87,7 @@ fn fewer_than_eight_bytes_are_no_rule(rt: HostRuntime) -> Result<(), Fail> {
     Ok(())
 }
 
-// The first rule is fine, the second is refused, and the third would be too, for another reason.
+// The first rule is fine and the second is refused; so would be the third, for another reason.
 #[test]
 fn the_first_refused_rule_is_told_and_none_is_added(rt: HostRuntime) -> Result<(), Fail> {
     for (second, third, fault) in [
@@ -103,7 +107,7 @@ fn the_first_refused_rule_is_told_and_none_is_added(rt: HostRuntime) -> Result<(
             SheetFault::NoSuchCount,
         ),
         // the stretch before the count
-        ([0, 0, 2, 1], [0, 1, 0, 1], SheetFault::NoSuchStretch),
+        ([0, 0, 2, 1], [0, 1, 2, 1], SheetFault::NoSuchStretch),
     ] {
         let mut numbers = [0, 4, 1, 4].to_vec(rt.alloc())?;
         numbers.extend_from_slice(&second)?;
@@ -117,12 +121,12 @@ fn the_first_refused_rule_is_told_and_none_is_added(rt: HostRuntime) -> Result<(
 
 #[test]
 fn up_to_32_rules_with_those_that_stand(rt: HostRuntime) -> Result<(), Fail> {
-    let added = add(&[0, 0, 1, 0, 0, 0, 1, 0].repeat(rt.alloc(), 31)?)?;
+    let added = add(&ONE_LOT.repeat(rt.alloc(), 31)?)?;
     assert_eq!(rt; added.answer, Ok(()));
     assert_eq!(rt; (added.rules, added.book.rules()), (32, 32));
     assert_eq!(rt; added.book.rows().get(31), Some(&rule(0, 1, 0, 1)));
     for rules in 32..35 {
-        let full = add(&[0, 0, 1, 0, 0, 0, 1, 0].repeat(rt.alloc(), rules)?)?;
+        let full = add(&ONE_LOT.repeat(rt.alloc(), rules)?)?;
         assert_eq!(rt;
             full.answer,
             Err(FileFault::Sheet(SheetFault::BookFull)),
@@ -133,21 +137,16 @@ fn up_to_32_rules_with_those_that_stand(rt: HostRuntime) -> Result<(), Fail> {
     Ok(())
 }
 
-// The 33rd rule that the book would have is looked at, and none behind it.
+// The book's 33rd rule is looked at before the book is told to be full, and none behind it is.
 #[test]
-fn a_refused_rule_behind_a_full_book(rt: HostRuntime) -> Result<(), Fail> {
-    let mut bytes = [0, 0, 1, 0, 0, 0, 1, 0].repeat(rt.alloc(), 31)?;
-    bytes.extend_from_slice(&[0, 0, 1, 0, 2, 0, 1, 0])?;
-    let at_the_edge = add(&bytes)?;
-    assert_eq!(rt;
-        at_the_edge.answer,
-        Err(FileFault::Sheet(SheetFault::NoSuchCount))
-    );
-    let mut more = [0, 0, 1, 0, 0, 0, 1, 0].repeat(rt.alloc(), 32)?;
-    more.extend_from_slice(&[0, 0, 1, 0, 2, 0, 1, 0])?;
-    let behind = add(&more)?;
-    assert_eq!(rt; behind.answer, Err(FileFault::Sheet(SheetFault::BookFull)));
-    assert_eq!(rt; (behind.rules, behind.book.rows()), (1, [FIRST].as_slice()));
+fn a_refused_rule_at_a_full_book(rt: HostRuntime) -> Result<(), Fail> {
+    for (fine, fault) in [(31, SheetFault::NoSuchCount), (32, SheetFault::BookFull)] {
+        let mut bytes = ONE_LOT.repeat(rt.alloc(), fine)?;
+        bytes.extend_from_slice(&[0, 0, 1, 0, 2, 0, 1, 0])?;
+        let full = add(&bytes)?;
+        assert_eq!(rt; full.answer, Err(FileFault::Sheet(fault)), "at {fine}");
+        assert_eq!(rt; (full.rules, full.book.rows()), (1, [FIRST].as_slice()));
+    }
     Ok(())
 }
 
