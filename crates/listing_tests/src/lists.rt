@@ -2,6 +2,7 @@
 use listing::fault::ListFault;
 use listing::list::list;
 use listing::number::digits;
+use std::test::Fail;
 
 #[test]
 fn a_line_for_each_lot_and_the_count(rt: HostRuntime) {
@@ -61,6 +62,21 @@ fn listing_256_days(rt: HostRuntime) {
     let mut short = [b'#'; 3480];
     assert_eq!(rt; list(&days, &mut short), Err(ListFault::ShortBytes));
     assert_eq!(rt; short, [b'#'; 3480]);
+}
+
+#[test]
+fn listing_256_times_the_greatest_word(rt: HostRuntime) -> Result<(), Fail> {
+    let mut text = String::new(rt.alloc());
+    for lot in 0..256 {
+        text.push_str(&format!(in rt.alloc(); "lot {lot} day 4294967295\n")?)?;
+    }
+    text.push_str("days 1\n")?;
+    let days = [4_294_967_295; 256];
+    let mut out = [b'#'; 5786];
+    assert_eq!(rt; list(&days, &mut out), Ok(5785));
+    assert!(rt; out.starts_with(text.as_bytes()));
+    assert_eq!(rt; (text.len(), out[5785]), (5785, b'#'));
+    Ok(())
 }
 
 #[test]
