@@ -1,4 +1,4 @@
-// The second solver: it tries every choice of days, and calls nothing of the planner.
+// The second solver: it tries every choice of days, and calls nothing of the planner. The types of a window and of a rule are all that it shares.
 pub mod calendars;
 pub mod choices;
 pub mod counts;
