@@ -1,6 +1,9 @@
 // The planner on a small sheet.
+use crate::answer::Answer;
 use crate::small::Small;
 use bottom::words::WordStore;
+use count::fewest::fewest;
+use count::most::most;
 use page::guard::WORDS;
 use plan::planning::plan;
 use plan::settle::settle;
@@ -11,36 +14,78 @@ use std::alloc::{AllocError, Global};
 use store::store::{WindowStore, read_window};
 use store::window::Window;
 
-// What settle leaves, if it does not refuse.
-pub fn settled(alloc: Global, sheet: &Small) -> Result<Option<Small>, AllocError> {
+// What settle leaves.
+pub fn settled(alloc: Global, sheet: &Small) -> Result<Answer, AllocError> {
     let mut words = words_of(alloc, &sheet.windows)?;
     let mut house = WordStore::new(&mut words);
     let mut book = Book::empty(0);
-    let Ok(slip) = closed(&house, &mut book, &sheet.rules) else {
-        return Ok(None);
+    let slip = match closed(&house, &mut book, &sheet.rules) {
+        Ok(slip) => slip,
+        Err(fault) => return Ok(Answer::Refused(fault.number())),
     };
     let mut work = [0; WORDS];
     let answer = settle(&slip, &mut house, &mut book, &mut work);
     slip.put_away();
     match answer {
-        Ok(()) => Ok(Some(read_back(alloc, &house, &book)?)),
-        Err(_) => Ok(None),
+        Ok(()) => Ok(Answer::Windows(read_back(alloc, &house, &book)?)),
+        Err(fault) => Ok(Answer::Refused(fault.number())),
     }
 }
 
-// What plan answers, if it does not refuse.
-pub fn planned(alloc: Global, sheet: &Small) -> Result<Option<Vec<u32>>, AllocError> {
+// What plan answers.
+pub fn planned(alloc: Global, sheet: &Small) -> Result<Answer, AllocError> {
     let mut words = words_of(alloc, &sheet.windows)?;
-    let house = WordStore::new(&mut words);
-    let mut days = vec![in alloc; 0; sheet.windows.len()]?;
+    planned_on(alloc, &WordStore::new(&mut words), &sheet.rules)
+}
+
+// The same on any store.
+pub fn planned_on<S: WindowStore>(
+    alloc: Global,
+    house: &S,
+    rules: &[Row],
+) -> Result<Answer, AllocError> {
+    let mut days = vec![in alloc; 0; house.lots()]?;
     let mut book = Book::empty(0);
-    let Ok(slip) = closed(&house, &mut book, &sheet.rules) else {
-        return Ok(None);
+    let slip = match closed(house, &mut book, rules) {
+        Ok(slip) => slip,
+        Err(fault) => return Ok(Answer::Refused(fault.number())),
     };
     let mut work = [0; WORDS];
-    let answer = plan(&slip, &house, &book, &mut days, &mut work);
+    let answer = plan(&slip, house, &book, &mut days, &mut work);
     slip.put_away();
-    Ok(answer.ok().map(|_| days))
+    match answer {
+        Ok(count) => Ok(Answer::Plan(days, count)),
+        Err(fault) => Ok(Answer::Refused(fault.number())),
+    }
+}
+
+// The fewest different days that the lots of a rule may take, whatever its count window.
+pub fn fewest_days(alloc: Global, sheet: &Small, rule: &Row) -> Result<Answer, AllocError> {
+    let mut words = words_of(alloc, &sheet.windows)?;
+    let house = WordStore::new(&mut words);
+    let mut answer = vec![in alloc; 0; sheet.windows.len().saturating_mul(2)]?;
+    let mut work = [0; WORDS];
+    match fewest(&house, rule.stretch(), &mut answer, &mut work) {
+        Ok(count) => Ok(Answer::Number(count as u64)),
+        Err(fault) => Ok(Answer::Refused(fault.number())),
+    }
+}
+
+// The most.
+pub fn most_days(alloc: Global, sheet: &Small, rule: &Row) -> Result<Answer, AllocError> {
+    let mut words = words_of(alloc, &sheet.windows)?;
+    let house = WordStore::new(&mut words);
+    let mut answer = vec![in alloc; 0; sheet.windows.len().saturating_mul(2)]?;
+    let mut work = [0; WORDS];
+    match most(&house, rule.stretch(), &mut answer, &mut work) {
+        Ok(found) => Ok(Answer::Number(found.count as u64)),
+        Err(fault) => Ok(Answer::Refused(fault.number())),
+    }
+}
+
+// The windows that a store shows.
+pub fn shown<S: WindowStore>(alloc: Global, house: &S) -> Result<Answer, AllocError> {
+    Ok(Answer::Windows(read_back(alloc, house, &Book::empty(0))?))
 }
 
 // A house has words, low and high of each lot in turn.

@@ -1,9 +1,46 @@
 // A small sheet: the windows of a few lots, and a few rules over them.
 use rules::row::Row;
+use std::alloc::{AllocError, Global};
 use store::window::Window;
 
 #[derive(Clone, PartialEq, Eq, Drop)]
 pub struct Small {
     pub windows: Vec<Window>,
     pub rules: Vec<Row>,
+}
+
+impl Small {
+    // A sheet of these first and last days.
+    pub fn new(alloc: Global, ends: &[(u32, u32)], rules: &[Row]) -> Result<Small, AllocError> {
+        Ok(Small {
+            windows: ends
+                .iter()
+                .map(|(low, high)| window(*low, *high))
+                .collect(alloc)?,
+            rules: rules.to_vec(alloc)?,
+        })
+    }
+
+    // A sheet that leaves each lot just this day.
+    pub fn fixed(alloc: Global, days: &[u32], rules: &[Row]) -> Result<Small, AllocError> {
+        Ok(Small {
+            windows: days.iter().map(|day| window(*day, *day)).collect(alloc)?,
+            rules: rules.to_vec(alloc)?,
+        })
+    }
+}
+
+// The days from `low` to `high`.
+pub fn window(low: u32, high: u32) -> Window {
+    Window { low, high }
+}
+
+// The `length` lots from the lot `first` on take from `floor` to `ceiling` different days.
+pub fn rule(first: usize, length: usize, floor: u32, ceiling: u32) -> Row {
+    Row {
+        first,
+        length,
+        floor,
+        ceiling,
+    }
 }

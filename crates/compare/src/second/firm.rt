@@ -1,6 +1,9 @@
-// The second solver: it tries every choice of days, and takes one day at a time off a window. It shares no code with the planner.
+// The greatest firm windows, found by taking one day at a time off a window.
+use crate::answer::Answer;
+use crate::second::NO_FIRM_WINDOWS;
+use crate::second::choices::{Days, all_choices};
+use crate::second::counts::{count_days, days_under, keeps};
 use crate::small::Small;
-use itertools::Itertools;
 use rules::row::Row;
 use std::alloc::{AllocError, Global};
 use store::window::Window;
@@ -8,20 +11,15 @@ use store::window::Window;
 // More than any small sheet has days to take off.
 const ENOUGH: usize = 1000;
 
-// A day for each lot.
-type Days = Vec<u32>;
-
-// The first choice, by the day of the first lot, then of the second and so on, that keeps every rule.
-pub fn earliest(alloc: Global, sheet: &Small) -> Result<Option<Days>, AllocError> {
-    let choices = all_choices(alloc, &sheet.windows)?;
-    let plan = choices
-        .into_iter()
-        .find(|days| sheet.rules.iter().all(|rule| keeps(rule, days)));
-    Ok(plan)
+pub fn settled(alloc: Global, sheet: &Small) -> Result<Answer, AllocError> {
+    match greatest_firm(alloc, sheet)? {
+        Some(left) => Ok(Answer::Windows(left)),
+        None => Ok(Answer::Refused(NO_FIRM_WINDOWS)),
+    }
 }
 
 // Moves ends inwards day by day, as long as one is used by no choice.
-pub fn greatest_firm(alloc: Global, sheet: &Small) -> Result<Option<Small>, AllocError> {
+fn greatest_firm(alloc: Global, sheet: &Small) -> Result<Option<Small>, AllocError> {
     let mut left = sheet.clone()?;
     for _ in 0..ENOUGH {
         let choices = all_choices(alloc, &left.windows)?;
@@ -35,15 +33,6 @@ pub fn greatest_firm(alloc: Global, sheet: &Small) -> Result<Option<Small>, Allo
         left = next;
     }
     Ok(None)
-}
-
-// Every choice of a day from each window, in order: the days of the last lot change fastest.
-fn all_choices(alloc: Global, windows: &[Window]) -> Result<Vec<Days>, AllocError> {
-    windows
-        .iter()
-        .map(|window| window.low..=window.high)
-        .multi_cartesian_product(alloc)?
-        .try_collect(alloc)
 }
 
 // The sheet with each end that no choice uses one further in. Where a rule is kept by no choice, its count window or the windows of its lots become empty.
@@ -101,23 +90,5 @@ fn is_used(rule: &Row, lot: usize, day: u32, choices: &[Days]) -> bool {
 
 // Some choice has this count over the rule's stretch.
 fn is_counted(rule: &Row, count: u32, choices: &[Days]) -> bool {
-    choices
-        .iter()
-        .any(|days| count_days(rule, days) == count as usize)
-}
-
-fn keeps(rule: &Row, days: &[u32]) -> bool {
-    let count = count_days(rule, days);
-    rule.floor as usize <= count && count <= rule.ceiling as usize
-}
-
-// A day counts where no earlier lot of the stretch has it.
-fn count_days(rule: &Row, days: &[u32]) -> usize {
-    let lots = days.iter().skip(rule.first).take(rule.length);
-    lots.enumerate()
-        .filter(|(place, day)| {
-            let mut earlier = days.iter().skip(rule.first).take(*place);
-            !earlier.any(|other| other == *day)
-        })
-        .count()
+    choices.iter().any(|days| count_days(days_under(rule, days)) == count as usize)
 }

@@ -1,0 +1,32 @@
+// Plans, found by trying every choice.
+use crate::answer::Answer;
+use crate::second::NO_PLAN;
+use crate::second::choices::{Days, all_choices};
+use crate::second::counts::{count_days, keeps};
+use crate::small::Small;
+use std::alloc::{AllocError, Global};
+
+// The first choice, by the day of the first lot, then of the second and so on, that keeps every rule.
+pub fn planned(alloc: Global, sheet: &Small) -> Result<Answer, AllocError> {
+    let choices = all_choices(alloc, &sheet.windows)?;
+    match choices.into_iter().find(|days| keeps_all(sheet, days)) {
+        Some(days) => {
+            let count = count_days(&days);
+            Ok(Answer::Plan(days, count))
+        }
+        None => Ok(Answer::Refused(NO_PLAN)),
+    }
+}
+
+// All choices that keep every rule, in order.
+pub fn all_plans(alloc: Global, sheet: &Small) -> Result<Vec<Days>, AllocError> {
+    let choices = all_choices(alloc, &sheet.windows)?;
+    choices
+        .into_iter()
+        .filter(|days| keeps_all(sheet, days))
+        .collect(alloc)
+}
+
+fn keeps_all(sheet: &Small, days: &[u32]) -> bool {
+    sheet.rules.iter().all(|rule| keeps(rule, days))
+}
