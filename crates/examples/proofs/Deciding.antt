@@ -272,15 +272,17 @@ least_so ws lots e =
     both (some ws (λ ds. nvalue ds == length lots) && every ws (λ ds. nat_le (length lots) (nvalue ds))) (every_one (λ lot. nat_lt lot (length ws)) lots && disjoint (map (window_at ws) lots)) e in
     let c = both (some ws (λ ds. nvalue ds == length lots)) (every ws (λ ds. nat_le (length lots) (nvalue ds))) b.0 in
     let d = both (every_one (λ lot. nat_lt lot (length ws)) lots) (disjoint (map (window_at ws) lots)) b.1 in
-    let found = some_found ws (λ ds. nvalue ds == length lots) c.0 in
-    (found.0, record {
-      choice = found.1;
-      count = eqb-true (nvalue found.0) (length lots) found.2;
-      many = refl;
-      there = one_by_one (λ lot. nat_lt lot (length ws)) (λ lot. lot < length ws) lots (λ lot h. leb-true (suc lot) (length ws) h) d.0;
-      disjoint = are_disjoint (map (window_at ws) lots) d.1;
-      least = λ ds k. leb-true (length lots) (nvalue ds) (every_at ws (λ es. nat_le (length lots) (nvalue es)) ds c.1 k);
-    })
+    let found = some_found ws (λ ds. nvalue ds == length lots) c.0 in (
+      found.0,
+      record {
+        choice = found.1;
+        count = eqb-true (nvalue found.0) (length lots) found.2;
+        many = refl;
+        there = one_by_one (λ lot. nat_lt lot (length ws)) (λ lot. lot < length ws) lots (λ lot h. leb-true (suc lot) (length ws) h) d.0;
+        disjoint = are_disjoint (map (window_at ws) lots) d.1;
+        least = λ ds k. leb-true (length lots) (nvalue ds) (every_at ws (λ es. nat_le (length lots) (nvalue es)) ds c.1 k);
+      },
+    )
 
 abbrev is_greatest : List Window → List Window → ℕ → Bool
 is_greatest ws runs m =
@@ -293,15 +295,17 @@ greatest_so ws runs m e =
     let c = both (some ws (λ ds. nvalue ds == m)) (every ws (λ ds. nat_le (nvalue ds) m)) b.0 in
     let d = both (disjoint runs && every_one (λ run. nat_lt (size run) (load run ws)) runs) (m + surplus ws runs == length ws) b.1 in
     let f = both (disjoint runs) (every_one (λ run. nat_lt (size run) (load run ws)) runs) d.0 in
-    let found = some_found ws (λ ds. nvalue ds == m) c.0 in
-    (found.0, record {
-      choice = found.1;
-      count = eqb-true (nvalue found.0) m found.2;
-      disjoint = are_disjoint runs f.0;
-      crowded = one_by_one (λ run. nat_lt (size run) (load run ws)) (Crowded ws) runs (λ run h. leb-true (suc (size run)) (load run ws) h) f.1;
-      adds_up = eqb-true (m + surplus ws runs) (length ws) d.1;
-      greatest = λ ds k. leb-true (nvalue ds) m (every_at ws (λ es. nat_le (nvalue es) m) ds c.1 k);
-    })
+    let found = some_found ws (λ ds. nvalue ds == m) c.0 in (
+      found.0,
+      record {
+        choice = found.1;
+        count = eqb-true (nvalue found.0) m found.2;
+        disjoint = are_disjoint runs f.0;
+        crowded = one_by_one (λ run. nat_lt (size run) (load run ws)) (Crowded ws) runs (λ run h. leb-true (suc (size run)) (load run ws) h) f.1;
+        adds_up = eqb-true (m + surplus ws runs) (length ws) d.1;
+        greatest = λ ds k. leb-true (nvalue ds) m (every_at ws (λ es. nat_le (nvalue es) m) ds c.1 k);
+      },
+    )
 
 -- the one lot of a store is raised, or lowered, and its end moves
 abbrev raises : Window → ℕ → Window → Bool

@@ -133,9 +133,10 @@ windows_each : (ws : List Window) (r : Row) (lot : ℕ) (vs us : List Window) �
 windows_each ws r lot [] [] a h = tt
 windows_each ws r lot [] (u ∷ us) a h = absurd a
 windows_each ws r lot (v ∷ vs) [] a h = absurd a
-windows_each ws r lot (v ∷ vs) (u ∷ us) a h =
-    (subst (λ k. Narrower v (tight_window ws r k u)) (let e : lot + 0 ≡ lot = omega arith in e) (h 0 (omega arith) a.0),
-    windows_each ws r (suc lot) vs us a.1 (λ i l n. subst (λ k. Narrower (window_at vs i) (tight_window ws r k (window_at us i))) (let e : lot + suc i ≡ suc lot + i = omega arith in e) (h (suc i) (omega arith) n)))
+windows_each ws r lot (v ∷ vs) (u ∷ us) a h = (
+  subst (λ k. Narrower v (tight_window ws r k u)) (let e : lot + 0 ≡ lot = omega arith in e) (h 0 (omega arith) a.0),
+  windows_each ws r (suc lot) vs us a.1 (λ i l n. subst (λ k. Narrower (window_at vs i) (tight_window ws r k (window_at us i))) (let e : lot + suc i ≡ suc lot + i = omega arith in e) (h (suc i) (omega arith) n)),
+)
 
 -- windows and rules lie inside those of a sheet, if there is one
 abbrev pub Kept : List Window → List Row → Option Sheet → Type 0
