@@ -1,8 +1,8 @@
 // The questions about a sheet that are put to both solvers.
 use crate::planner;
 use crate::second::{counts, firm, plans};
-use crate::small::Small;
 use crate::told::{Score, tell};
+use answers::small::Small;
 use rules::row::Row;
 use std::io;
 

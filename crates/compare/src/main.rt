@@ -2,13 +2,11 @@
 // two of them differ.
 #![tactic(auto)]
 
-mod answer;
 mod asked;
 mod literature;
 mod planner;
 mod random;
 mod second;
-mod small;
 mod told;
 mod worked;
 

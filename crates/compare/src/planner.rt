@@ -1,6 +1,6 @@
 // The planner on a small sheet.
-use crate::answer::Answer;
-use crate::small::Small;
+use answers::answer::Answer;
+use answers::small::Small;
 use bottom::words::WordStore;
 use count::fewest::fewest;
 use count::most::most;

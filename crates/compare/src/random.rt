@@ -2,13 +2,13 @@
 mod draw;
 mod tally;
 
-use crate::answer::Answer;
 use crate::planner;
 use crate::random::draw::Draw;
 use crate::random::tally::{Tally, count};
 use crate::second::{firm, plans};
-use crate::small::Small;
 use crate::told::Score;
+use answers::answer::Answer;
+use answers::small::Small;
 use rules::row::Row;
 use std::alloc::{AllocError, Global};
 use std::io;

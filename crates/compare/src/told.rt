@@ -1,6 +1,6 @@
 // Answers in plain words, a line for each question with the answers of both solvers, and how many of them agree.
-use crate::answer::{Answer, agree};
-use crate::small::Small;
+use answers::answer::{Answer, agree};
+use answers::small::Small;
 use rules::row::Row;
 use std::{fmt, io};
 use store::window::Window;

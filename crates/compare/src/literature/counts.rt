@@ -1,9 +1,9 @@
 // How many different days fixed days are, and whether they keep a rule that asks for just so many.
-use crate::answer::Answer;
 use crate::asked;
 use crate::second::counts::count_days;
-use crate::small::{Small, rule};
 use crate::told::{Listed, Score, tell};
+use answers::answer::Answer;
+use answers::small::{Small, rule};
 use nvalue::count::different_days;
 use std::io;
 

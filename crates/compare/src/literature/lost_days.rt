@@ -1,11 +1,11 @@
 // Which days a limit takes from each lot. A window has no gaps, so it cannot show a lost day between two used ones; the second solver finds these too.
-use crate::answer::Answer;
 use crate::second::choices::Days;
 use crate::second::lost::{lost_at_ends, lost_inside};
 use crate::second::plans::all_plans;
-use crate::small::{Small, rule};
 use crate::told::{Listed, Score, tell};
 use crate::{asked, planner};
+use answers::answer::Answer;
+use answers::small::{Small, rule};
 use rules::row::Row;
 use std::alloc::{AllocError, Global};
 use std::io;

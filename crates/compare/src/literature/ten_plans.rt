@@ -1,10 +1,10 @@
 // Three lots on at most two days: ten choices are plans. Each choice is planned as the only one, and the planner accepts just those ten.
-use crate::answer::Answer;
 use crate::second::choices::all_choices;
 use crate::second::plans;
-use crate::small::{Small, rule};
 use crate::told::{Listed, Score, tell};
 use crate::{asked, planner};
+use answers::answer::Answer;
+use answers::small::{Small, rule};
 use std::io;
 
 pub fn show(rt: &HostRuntime, score: &mut Score) -> io::Result<()> {

@@ -1,5 +1,5 @@
 // Drawing small sheets, the same ones in every run.
-use crate::small::Small;
+use answers::small::Small;
 use rules::row::Row;
 use std::alloc::{AllocError, Global};
 use std::array;

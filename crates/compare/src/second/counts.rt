@@ -1,7 +1,7 @@
 // Plain counts of different days.
-use crate::answer::Answer;
 use crate::second::choices::all_choices;
-use crate::small::Small;
+use answers::answer::Answer;
+use answers::small::Small;
 use rules::row::Row;
 use std::alloc::{AllocError, Global};
 

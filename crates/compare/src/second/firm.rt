@@ -1,9 +1,9 @@
 // The greatest firm windows, found by taking one day at a time off a window.
-use crate::answer::Answer;
 use crate::second::NO_FIRM_WINDOWS;
 use crate::second::choices::{Days, all_choices};
 use crate::second::counts::{count_days, days_under, keeps};
-use crate::small::Small;
+use answers::answer::Answer;
+use answers::small::Small;
 use rules::row::Row;
 use std::alloc::{AllocError, Global};
 use store::window::Window;

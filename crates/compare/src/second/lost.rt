@@ -1,6 +1,6 @@
 // Days of a window that no plan uses.
-use crate::answer::Answer;
 use crate::second::choices::Days;
+use answers::answer::Answer;
 use std::alloc::{AllocError, Global};
 use store::window::Window;
 

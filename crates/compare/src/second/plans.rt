@@ -1,9 +1,9 @@
 // Plans, found by trying every choice.
-use crate::answer::Answer;
 use crate::second::NO_PLAN;
 use crate::second::choices::{Days, all_choices};
 use crate::second::counts::{count_days, keeps};
-use crate::small::Small;
+use answers::answer::Answer;
+use answers::small::Small;
 use std::alloc::{AllocError, Global};
 
 // The first choice, by the day of the first lot, then of the second and so on, that keeps every rule.

@@ -1,11 +1,11 @@
 // One lot and no rule, through each calendar and on a mask: what is shown and planned, and what an ask leaves below.
-use crate::answer::Answer;
 use crate::planner;
 use crate::second::calendars::{Calendar, days_of, days_of_mask, mask_of};
 use crate::second::choices::Days;
 use crate::second::plans;
-use crate::small::{Small, window};
 use crate::told::{Score, tell};
+use answers::answer::Answer;
+use answers::small::{Small, window};
 use bottom::masks::MaskStore;
 use bottom::words::WordStore;
 use calendar::dispatch::Dispatch;

@@ -1,7 +1,7 @@
 // Sheets of a few lots: settled, planned, and the fewest and most days of each rule's lots.
 use crate::asked;
-use crate::small::{Small, rule};
 use crate::told::Score;
+use answers::small::{Small, rule};
 use rules::row::Row;
 use std::io;
 

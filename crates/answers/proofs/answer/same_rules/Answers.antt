@@ -4,7 +4,7 @@ use Rattle.std.specs.Cmp.Derive.{both_true}
 use Rattle.std.proofs.lemmas.Bool.Decides.{Decides-eqb}
 use Rattle.std.proofs.lemmas.Slice.Eq.{slice_eq-Decides}
 use Rattle.rules.specs.declared.row.Row.{Row}
-use Rattle.compare.proofs.answer.same_rules.Goals as goal
+use Rattle.answers.proofs.answer.same_rules.Goals as goal
 
 abbrev row : ℕ → ℕ → ℕ → ℕ → Row
 row first length floor ceiling = record { first = first; length = length; floor = floor; ceiling = ceiling }

@@ -5,7 +5,7 @@ use Rattle.std.proofs.lemmas.Bool.Decides.{Decides-eqb}
 use Rattle.std.proofs.lemmas.Slice.Eq.{slice_eq-Decides}
 use Rattle.store.specs.declared.window.Window.{Window}
 use Rattle.store.specs.Windows.{window}
-use Rattle.compare.proofs.answer.same_windows.Goals as goal
+use Rattle.answers.proofs.answer.same_windows.Goals as goal
 
 -- two windows are the same where both ends are
 window_Decides : (a b : Window) → Decides (eqb a.low b.low && eqb a.high b.high) (a ≡ b)

@@ -1,6 +1,6 @@
 // What a solver answers, and whether two answers are the same.
 ghost use Rattle.std.specs.Prelude.{◌≡◌, Decides};
-ghost use Rattle.compare.specs.Answers.{Same};
+ghost use Rattle.answers.specs.Answers.{Same};
 
 use crate::small::Small;
 use rules::row::Row;

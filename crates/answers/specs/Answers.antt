@@ -1,7 +1,7 @@
 -- When two answers say the same: they are of one kind, and alike in every word.
 use Rattle.std.specs.Prelude.{◌≡◌}
-use Rattle.compare.specs.declared.answer.Answer.{Answer}
-use Rattle.compare.specs.declared.answer.Answer.TheVariants.{Windows, Plan, Days, Number, Holds, Refused}
+use Rattle.answers.specs.declared.answer.Answer.{Answer}
+use Rattle.answers.specs.declared.answer.Answer.TheVariants.{Windows, Plan, Days, Number, Holds, Refused}
 
 abbrev pub Same : Answer → Answer → Type 0
 Same (Windows a) (Windows b) = (a.windows.items ≡ b.windows.items) × (a.rules.items ≡ b.rules.items)
