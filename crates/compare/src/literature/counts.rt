@@ -1,8 +1,9 @@
 // How many different days fixed days are, and whether they keep a rule that asks for just so many.
 use crate::asked;
 use crate::second::counts::count_days;
-use crate::told::{Listed, Score, tell};
+use crate::told::{Score, tell};
 use answers::answer::Answer;
+use answers::shown::Listed;
 use answers::small::{Small, rule};
 use nvalue::count::different_days;
 use std::io;

@@ -2,9 +2,10 @@
 use crate::second::choices::Days;
 use crate::second::lost::{lost_at_ends, lost_inside};
 use crate::second::plans::all_plans;
-use crate::told::{Listed, Score, tell};
+use crate::told::{Score, tell};
 use crate::{asked, planner};
 use answers::answer::Answer;
+use answers::shown::Listed;
 use answers::small::{Small, rule};
 use rules::row::Row;
 use std::alloc::{AllocError, Global};

@@ -1,9 +1,10 @@
 // Three lots on at most two days: ten choices are plans. Each choice is planned as the only one, and the planner accepts just those ten.
 use crate::second::choices::all_choices;
 use crate::second::plans;
-use crate::told::{Listed, Score, tell};
+use crate::told::{Score, tell};
 use crate::{asked, planner};
 use answers::answer::Answer;
+use answers::shown::Listed;
 use answers::small::{Small, rule};
 use std::io;
 
