@@ -1,4 +1,4 @@
--- The number of different values in a list: nvalue, as the catalogue of global constraints counts.
+-- nvalue: the number of different values in a list.
 use Rattle.std.specs.Prelude.{◌≡◌, ℕ, ◌+◌, ◌-◌, ◌≤◌, cond, List, [], ◌∷◌, length, ◌==◌}
 use Rattle.std.specs.List.{ContainsAt as Has}
 
