@@ -1,9 +1,9 @@
 -- The packing of lots into days: what stands after so many turns, at the start and after one turn more.
-use Rattle.std.proofs.Common.{◌≡◌, ℕ, ◌+◌, ◌<◌, ◌≤◌, Bool, true, false, cond, eqb, List, [], ◌∷◌, length, get_or, take, set, replicate, sum_by, refl, ap, ◌∙◌, inl, inr, arith}
+use Rattle.std.proofs.Common.{◌≡◌, ℕ, ◌+◌, ◌<◌, ◌≤◌, Bool, true, false, cond, eqb, List, [], ◌∷◌, length, get_or, take, set, replicate, sum_by, refl, sym, ap, ◌∙◌, subst, inl, inr, arith}
 use Rattle.std.specs.List.Sorted.{IsNonDecreasingBy, IsPermutation}
 use Rattle.std.specs.List.{AllByRecursion}
 use Rattle.std.proofs.ByRecursion.{All-get_or}
-use Rattle.std.proofs.lemmas.List.{get_or_past, get_or-replicate, length-set}
+use Rattle.std.proofs.lemmas.List.{get_or_past, get_or-replicate, length-replicate, length-set}
 use Rattle.std.proofs.lemmas.List.Sums.{sum_by-cons, sum_by_more}
 use Rattle.std.proofs.lemmas.Bool.{cases_lt}
 use Rattle.std.proofs.lemmas.Bool.Decides.{nat_tests}
@@ -14,7 +14,7 @@ use Rattle.nvalue.specs.Nvalue.{has}
 use Rattle.extremes.specs.declared.matching.Most.{Most}
 use Rattle.extremes.specs.Orders.{slots}
 use Rattle.store.specs.Sound.{Sound}
-use Rattle.extremes.specs.Turns.{Takes, LeftOver, Turn}
+use Rattle.extremes.specs.Turns.{EndBefore, Free, Takes, LeftOver, Turn}
 use Rattle.extremes.proofs.Orders.{length_order, slot_apart, slot_high, slot_there}
 use Rattle.extremes.proofs.Packed.{Taker, days_of, windows_of, Packed, packed_takes, packed_leaves, Chosen, chosen_more, lot_in_file}
 
@@ -23,7 +23,7 @@ pub record Packing (ws : List Window) (order : List (ℕ × ℕ)) (t : ℕ) (tak
   pub takers : List Taker
   pub overs : List Window
   pub last : ℕ
-  pub all_days : length taken ≡ 10000
+  pub ends : EndBefore (length taken) ws
   pub count : most.count ≡ length takers
   pub few : most.count ≤ t
   pub room : most.runs ≤ t
@@ -32,22 +32,23 @@ pub record Packing (ws : List Window) (order : List (ℕ × ℕ)) (t : ℕ) (tak
   pub sums : (f : Window → ℕ) → sum_by f (windows_of takers) + sum_by f overs ≡ sum_by (λ s. f (window_at ws s.1)) (take t order)
   pub ahead : (k : ℕ) → t ≤ k → k < length order → last ≤ (get_or order k (0, 0)).0
 
+-- in a room of cleared flags no day is taken
+pub none_taken : (n d : ℕ) → Free (replicate n false) d
+none_taken n d = elim (cases_lt d n) [ inl l ↦ get_or-replicate n d false false l | inr l ↦ get_or_past (replicate n false) d false (omega (arith, length-replicate n false)) ]
+
 -- before the first turn no day is taken
-pub packing_none : (ws : List Window) (order : List (ℕ × ℕ)) (days : List ℕ) (runs : List Window) → Packing ws order 0 (replicate 10000 false) days runs (record { count = 0; runs = 0 })
-packing_none ws order days runs = record {
+pub packing_none : (ws : List Window) (order : List (ℕ × ℕ)) (taken : List Bool) (days : List ℕ) (runs : List Window) → ((d : ℕ) → Free taken d) → EndBefore (length taken) ws
+    → Packing ws order 0 taken days runs (record { count = 0; runs = 0 })
+packing_none ws order taken days runs free ends = record {
   takers = [];
   overs = [];
   last = 0;
-  all_days = refl;
+  ends = ends;
   count = refl;
   few = omega arith;
   room = omega arith;
   packed = record {
-    marks = λ d.
-        elim (cases_lt d 10000) [
-          | inl l ↦ ap (λ b. cond b 1 0) (get_or-replicate 10000 d false false l)
-          | inr l ↦ ap (λ b. cond b 1 0) (get_or_past (replicate 10000 false) d false l)
-        ];
+    marks = λ d. ap (λ b. cond b 1 0) (free d);
     apart = refl;
     early = tt;
     held = tt;
@@ -86,12 +87,12 @@ module _ (ws : List Window) (order : List (ℕ × ℕ)) (shuffled : IsPermutatio
   packing_takes : Takes (window_at ws (lot_in_file order t)) day taken runs most taken' runs' most' → Packing ws order (t + 1) taken' (set days (lot_in_file order t) day) runs' most'
   packing_takes x =
       let w = window_at ws (lot_in_file order t) in
-      let here : day < length taken = omega (arith, x.inside.1, next_sound.1, p.all_days) in
+      let here : day < length taken = omega (arith, x.inside.1, p.ends (lot_in_file order t) (slot_there ws order shuffled t more)) in
       record {
         takers = (w, day) ∷ p.takers;
         overs = p.overs;
         last = w.high;
-        all_days = ap length x.marked ∙ length-set taken day true ∙ p.all_days;
+        ends = subst (λ n. EndBefore n ws) (sym (ap length x.marked ∙ length-set taken day true)) p.ends;
         count = omega (arith, x.count, p.count);
         few = omega (arith, x.count, p.few);
         room = omega (arith, x.top, p.room);
@@ -111,7 +112,7 @@ module _ (ws : List Window) (order : List (ℕ × ℕ)) (shuffled : IsPermutatio
         takers = p.takers;
         overs = w ∷ p.overs;
         last = w.high;
-        all_days = ap length x.same ∙ p.all_days;
+        ends = subst (λ n. EndBefore n ws) (sym (ap length x.same)) p.ends;
         count = x.count ∙ p.count;
         few = omega (arith, x.count, p.few);
         room = omega (arith, x.top, x.fewer, p.room);

@@ -1,5 +1,5 @@
 -- What a lot's turn does where lots take the days of their windows one after the other, the earliest last day first.
-use Rattle.std.specs.Prelude.{◌≡◌, ℕ, ◌+◌, ◌-◌, ◌<◌, ◌≤◌, Bool, true, false, ◌⊎◌, List, slice_index_or, slice_set}
+use Rattle.std.specs.Prelude.{◌≡◌, ℕ, ◌+◌, ◌-◌, ◌<◌, ◌≤◌, Bool, true, false, ◌⊎◌, List, length, slice_index_or, slice_set}
 use Rattle.store.specs.declared.window.Window.{Window}
 use Rattle.store.specs.Windows.{window, window_at}
 use Rattle.nvalue.specs.Choices.{In}
@@ -11,6 +11,10 @@ Taken taken d = slice_index_or taken d false ≡ true
 
 abbrev pub Free : List Bool → ℕ → Type 0
 Free taken d = slice_index_or taken d false ≡ false
+
+-- the windows end before a day
+abbrev pub EndBefore : ℕ → List Window → Type 0
+EndBefore day ws = (i : ℕ) → i < length ws → (window_at ws i).high < day
 
 -- the lot takes the first free day of its window
 pub record Takes (w : Window) (day : ℕ) (taken : List Bool) (runs : List Window) (most : Most) (is_taken : List Bool) (is_runs : List Window) (is : Most) : Type 0 where

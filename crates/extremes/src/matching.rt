@@ -1,11 +1,11 @@
 // The most different days of a list of windows: a matching of lots to days, in which lots in the order of their last days take the earliest free day of their window.
-ghost use Rattle.std.specs.Prelude.{◌≡◌, ℕ, ◌+◌, ◌-◌, ◌<◌, ◌≤◌, length, take};
+ghost use Rattle.std.specs.Prelude.{◌≡◌, ℕ, ◌+◌, ◌-◌, ◌<◌, ◌≤◌, true, length, take};
 ghost use Rattle.std.specs.List.Sorted.{IsNonDecreasingBy, IsPermutation};
 ghost use Rattle.store.specs.Windows.{window_at};
 ghost use Rattle.extremes.specs.Orders.{slots};
 ghost use Rattle.extremes.specs.Shown.{Greatest};
 ghost use Rattle.store.specs.Sound.{Sound};
-ghost use Rattle.extremes.specs.Turns.{Taken, Free, Turn};
+ghost use Rattle.extremes.specs.Turns.{EndBefore, Taken, Free, Turn};
 
 use crate::order::{Slot, by_last_day};
 use store::limits::{DAYS, LOTS};
@@ -19,6 +19,9 @@ pub struct Most {
     pub runs: usize,
 }
 
+// A room for this many days is enough for most seasons, and is cleared sooner than one for all days.
+pub const SHORT: usize = 512;
+
 // Writes a choice with the most different days, and the runs that show that no choice has more.
 // That `days` is as long as the season is a clause: the two come from different hands, so no one type can hold both.
 pub fn most_of(season: Season, days: &mut [u32], runs: &mut [Window]) -> Most
@@ -31,8 +34,8 @@ pub fn most_of(season: Season, days: &mut [u32], runs: &mut [Window]) -> Most
     place_lots(season, by_last_day(season, &mut room), days, runs)
 }
 
-// Gives each lot its day, in the given order.
-fn place_lots(season: Season, order: &[Slot], days: &mut [u32], runs: &mut [Window]) -> Most
+// Gives each lot its day, in the given order. The flags of days that are taken are as many as the last window needs.
+pub fn place_lots(season: Season, order: &[Slot], days: &mut [u32], runs: &mut [Window]) -> Most
     requires day_each { length days.old ≡ length season.windows.now }
     requires run_room { length season.windows.now ≤ length runs.old }
     requires shuffled { IsPermutation (slots 0 season.windows.now) order.now }
@@ -40,18 +43,49 @@ fn place_lots(season: Season, order: &[Slot], days: &mut [u32], runs: &mut [Wind
     ensures shown { Greatest season.entry.windows.now days.new (take result.runs runs.new) result.count }
     ensures room { result.runs ≤ length runs.new }
 {
-    let mut taken = [false; DAYS];
+    if end_before(season.windows, SHORT) {
+        place_in(season, order, &mut [false; SHORT], days, runs)
+    } else {
+        place_in(season, order, &mut [false; DAYS], days, runs)
+    }
+}
+
+// Do all windows end before a day?
+pub fn end_before(windows: &[Window], day: usize) -> bool
+    ensures { result ≡ true → EndBefore day windows.now }
+{
+    windows.iter().all(|window| (window.high as usize) < day)
+}
+
+// The same with a flag for each day, none of which is taken.
+fn place_in(
+    season: Season,
+    order: &[Slot],
+    taken: &mut [bool],
+    days: &mut [u32],
+    runs: &mut [Window],
+) -> Most
+    requires day_each { length days.old ≡ length season.windows.now }
+    requires run_room { length season.windows.now ≤ length runs.old }
+    requires shuffled { IsPermutation (slots 0 season.windows.now) order.now }
+    requires rises { IsNonDecreasingBy (λ s. s.0) order.now }
+    requires free { (d : ℕ) → Free taken.old d }
+    requires ends { EndBefore (length taken.old) season.windows.now }
+    ensures shown { Greatest season.entry.windows.now days.new (take result.runs runs.new) result.count }
+    ensures room { result.runs ≤ length runs.new }
+{
     let mut most = Most { count: 0, runs: 0 };
     for (_, place) in order {
-        days[*place] = place_lot(season.windows[*place], &mut taken, runs, &mut most);
+        days[*place as usize] = place_lot(season.windows[*place as usize], taken, runs, &mut most);
     }
     most
 }
 
 // One lot's turn (a single window is sound by a clause: a type for it would be converted at each read of a slice), and the day that it gets: the first free one of its window, or where none is free the window's first.
 // Then the run of taken days that ends with the window shows that the lot is left over.
-fn place_lot(window: Window, taken: &mut [bool; DAYS], runs: &mut [Window], most: &mut Most) -> u32
+fn place_lot(window: Window, taken: &mut [bool], runs: &mut [Window], most: &mut Most) -> u32
     requires sound { Sound window }
+    requires ends { window.high < length taken.old }
     requires room { most.old.runs < length runs.old }
     requires few { most.old.count ≤ 256 }
     ensures { Turn window result taken.old runs.old most.old taken.new runs.new most.new }
@@ -73,8 +107,9 @@ fn place_lot(window: Window, taken: &mut [bool; DAYS], runs: &mut [Window], most
 }
 
 // The first free day of a window, or the day after its last.
-fn first_free(taken: &[bool; DAYS], window: Window) -> u32
+fn first_free(taken: &[bool], window: Window) -> u32
     requires sound { Sound window }
+    requires ends { window.high < length taken.now }
     ensures from { window.low ≤ result }
     ensures before { (d : ℕ) → window.low ≤ d → d < result → Taken taken.now d }
     ensures free { result ≤ window.high → Free taken.now result }

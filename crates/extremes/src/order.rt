@@ -1,5 +1,5 @@
 // Lots in the order of their last days.
-ghost use Rattle.std.specs.Prelude.{◌≡◌, length};
+ghost use Rattle.std.specs.Prelude.{◌≡◌, ◌≤◌, length};
 ghost use Rattle.std.specs.List.Sorted.{IsPermutation, IsNonDecreasingBy};
 ghost use Rattle.extremes.specs.Orders.{slots};
 
@@ -8,7 +8,7 @@ use store::season::Season;
 use store::window::Window;
 
 // A lot's last day, and its place in the stretch.
-pub type Slot = (u32, usize);
+pub type Slot = (u32, u32);
 
 // That the order is a permutation of the lots, and rises, stays two clauses of those who take it: `IsPermutation` has the swaps as data, and a ghost field holds none.
 // The lots of a season, the earliest last day first, in the room that is lent for them.
@@ -24,10 +24,11 @@ pub fn by_last_day<'a>(season: Season, room: &'a mut [Slot; LOTS]) -> &'a [Slot]
 
 // That `order` is as long as `windows` is a clause: the two come from different hands, so no one type can hold both.
 fn fill_slots(windows: &[Window], order: &mut [Slot])
-    requires { length order.old ≡ length windows.now }
+    requires each { length order.old ≡ length windows.now }
+    requires few { length windows.now ≤ 256 }
     ensures { order.new ≡ slots 0 windows.now }
 {
     for (place, window) in windows.iter().enumerate() {
-        order[place] = (window.high, place);
+        order[place] = (window.high, place as u32);
     }
 }

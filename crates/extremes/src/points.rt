@@ -23,7 +23,7 @@ pub fn fewest_of(season: Season, days: &mut [u32], lots: &mut [u32]) -> usize
 }
 
 // Serves the lots in order: one whose window begins past the last point opens a new one at its last day.
-fn serve(season: Season, order: &[Slot], days: &mut [u32], lots: &mut [u32]) -> usize
+pub fn serve(season: Season, order: &[Slot], days: &mut [u32], lots: &mut [u32]) -> usize
     requires day_each { length days.old ≡ length season.windows.now }
     requires lot_room { length season.windows.now ≤ length lots.old }
     requires shuffled { IsPermutation (slots 0 season.windows.now) order.now }
@@ -35,12 +35,12 @@ fn serve(season: Season, order: &[Slot], days: &mut [u32], lots: &mut [u32]) -> 
     let mut count = 0;
     let mut point = 0;
     for (high, place) in order {
-        if count == 0 || season.windows[*place].low > point {
-            lots[count] = *place as u32;
+        if count == 0 || season.windows[*place as usize].low > point {
+            lots[count] = *place;
             count += 1;
             point = *high;
         }
-        days[*place] = point;
+        days[*place as usize] = point;
     }
     count
 }

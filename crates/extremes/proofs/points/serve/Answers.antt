@@ -46,9 +46,6 @@ offset_bounds-season-place c = let lot = names_lot _ _ c.requires.shuffled c.loo
 pub bounds-season-place : goal.bounds-season-place
 bounds-season-place c = names_lot _ _ c.requires.shuffled c.loop-high.high-index (omega arith)
 
-pub overflow_cast-lots : goal.overflow_cast-lots
-overflow_cast-lots c = let lot = names_lot _ _ c.requires.shuffled c.loop-high.high-index (omega arith) in search rules
-
 pub bounds-lots-count : goal.bounds-lots-count
 bounds-lots-count c = omega (arith, c.loop-high.invariant.few, length_order _ _ c.requires.shuffled)
 
