@@ -1,5 +1,11 @@
-pub mod Firsts
+pub mod Crowd
+pub mod Facing
+pub mod Hulls
 pub mod Moved
-pub mod Narrowed
 pub mod Rungs
+pub mod Seating
+pub mod ShutIn
+pub mod Sparing
+pub mod Spreading
 pub mod Tightened
+pub mod Walking

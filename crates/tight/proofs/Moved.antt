@@ -35,3 +35,16 @@ module _ (ds : List ℕ) (i v : ℕ) (there : i < length ds) where
       let new : has v (set ds i v) ≡ 1 = has_from v (set ds i v) (i, rw length-set there, λ d. get_or-set_same ds i v d there) in
       let within : Within (v ∷ without own ds) (set ds i v) = λ x. grind (arith, nat_tests, has_moved x ds i v, has_without own x ds) in
       grind (arith, nat_tests, nvalue_mono (v ∷ without own ds) (set ds i v) within, nvalue_without own ds, has_without own v ds, has_le_one)
+
+  -- both: a different day more
+  pub moved_gains : (j : ℕ) → j < length ds → j ≢ i → get_or ds j 0 ≡ get_or ds i 0 → ((k : ℕ) → k < length ds → get_or ds k 0 ≡ v → ⊥) → nvalue ds < nvalue (set ds i v)
+  moved_gains j l ne e free =
+      let none : has v ds ≡ 1 → ⊥ = λ h. let m = has_to v ds h in free m.0 m.1 (m.2 0) in
+      let new : has v (set ds i v) ≡ 1 = has_from v (set ds i v) (i, rw length-set there, λ d. get_or-set_same ds i v d there) in
+      let old : has (get_or ds i 0) (set ds i v) ≡ 1 =
+      has_from _ (set ds i v) (j, rw length-set l, λ d. get_or-set_other ds i j v d ne ∙ get_or_default ds j d 0 l ∙ e) in
+      let within : Within (v ∷ ds) (set ds i v) = λ x. elim (cases_eq (get_or ds i 0) x) [
+        | inl same ↦ subst (λ y. has y (v ∷ ds) ≤ has y (set ds i v)) same (omega (arith, has_le_one (get_or ds i 0) (v ∷ ds)))
+        | inr other ↦ let m = has_moved x ds i v other in grind (arith, nat_tests, has_le_one x ds, has_le_one x (set ds i v))
+      ] in
+      grind (arith, nat_tests, nvalue_mono (v ∷ ds) (set ds i v) within, has_le_one v ds)

@@ -1,3 +1,5 @@
-pub mod FirstDays
+pub mod BestDays
 pub mod FirstUsed
+pub mod Seats
+pub mod Walks
 pub mod Tight

@@ -1,47 +1,48 @@
 // The smallest windows that hold every choice with the fewest different days.
 ghost use Rattle.std.specs.Prelude.{◌≡◌, ℕ, ◌<◌, ◌≤◌, map, length, take, slice_index};
 ghost use Rattle.std.specs.List.{AllByRecursion};
+ghost use Rattle.std.specs.List.Sorted.{IsNonDecreasingBy, IsPermutation};
+ghost use Rattle.extremes.specs.Orders.{slots};
 ghost use Rattle.extremes.specs.Mirror.{mirrored};
 ghost use Rattle.extremes.specs.Points.{lasts, Points};
 ghost use Rattle.tight.specs.FirstUsed.{Ascending, Reached, FirstUsed};
 ghost use Rattle.extremes.specs.Shown.{HasFewest};
-ghost use Rattle.tight.specs.Tight.{Hull};
+ghost use Rattle.tight.specs.Tight.{Hull, IsLeast};
 
 use extremes::mirror::{flip_day, mirror_season};
-use extremes::points::fewest_of;
+use extremes::order::{Slot, by_last_day};
+use extremes::points::serve;
 use store::limits::LOTS;
 use store::season::Season;
 use store::window::Window;
 
-// Finds the points from the left and, by the mirror image, from the right. Each pair of them bounds the days that can stand for one of the fewest.
+// The points from the left are given; those from the right are found by the mirror image. Each pair of them bounds the days that can stand for one of the fewest.
 // That `hull` is as long as the season is a clause: the two come from different hands, so no one type can hold both.
-pub fn fewest_hull(season: Season, hull: &mut [Window])
+pub fn fewest_hull(season: Season, points: &[u32], hull: &mut [Window])
     requires each { length hull.old ≡ length season.windows.now }
+    requires points { Points season.windows.now points.now }
     ensures { Hull season.entry.windows.now (HasFewest season.entry.windows.now) hull.new }
 {
     let mut room = [Window::default(); LOTS];
     let image = mirror_season(season, &mut room);
-    let mut points = [0; LOTS];
+    let mut slots = [(0, 0); LOTS];
     let mut image_points = [0; LOTS];
-    let count = points_of(season, &mut points);
-    let image_count = points_of(image, &mut image_points);
-    narrow(
-        season,
-        &points[0..count],
-        &image_points[0..image_count],
-        hull,
-    );
+    let count = points_of(image, by_last_day(image, &mut slots), &mut image_points);
+    narrow(season, points, &image_points[0..count], hull);
 }
 
 // Writes the points of a choice with the fewest different days, in ascending order.
-fn points_of(season: Season, points: &mut [u32]) -> usize
+pub fn points_of(season: Season, order: &[Slot], points: &mut [u32]) -> usize
     requires room { length season.windows.now ≤ length points.old }
+    requires shuffled { IsPermutation (slots 0 season.windows.now) order.now }
+    requires rises { IsNonDecreasingBy (λ s. s.0) order.now }
     ensures points { Points season.entry.windows.now (take result points.new) }
     ensures few { result ≤ length points.new }
+    ensures least { IsLeast season.entry.windows.now result }
 {
     let mut days = [0; LOTS];
     let mut lots = [0; LOTS];
-    let count = fewest_of(season, &mut days[0..season.windows.len()], &mut lots);
+    let count = serve(season, order, &mut days[0..season.windows.len()], &mut lots);
     last_days(season.windows, &lots[0..count], &mut points[0..count]);
     count
 }

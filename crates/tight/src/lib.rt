@@ -2,10 +2,12 @@
 #![tactic(auto)]
 
 mod fewest_hull;
-mod first_days;
+mod loose;
 mod most_hull;
+mod seats;
+mod shut;
 pub mod tight;
-mod trial;
+mod walk;
 
 // Count windows stand in the crate of counting; callers of `tighten` find them here too.
 pub use nvalue::count_window;

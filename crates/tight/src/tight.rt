@@ -1,17 +1,21 @@
 // The tightest windows of one rule: bound consistency of a single nvalue constraint.
 ghost use Rattle.std.specs.Prelude.{◌≡◌, ℕ, ◌≤◌, List, length, MatchOption, MatchResult};
 ghost use Rattle.std.specs.List.{AllByRecursion};
+ghost use Rattle.std.specs.List.Sorted.{IsNonDecreasingBy, IsPermutation};
+ghost use Rattle.extremes.specs.Orders.{slots};
+ghost use Rattle.extremes.specs.Points.{Points};
+ghost use Rattle.tight.specs.BestDays.{Best};
 ghost use Rattle.nvalue.specs.Choices.{Choice};
 ghost use Rattle.count.specs.Asked.{Unfit};
 ghost use Rattle.store.specs.Sound.{Sound};
 ghost use Rattle.nvalue.specs.Nvalue.{Counts};
 ghost use Rattle.tight.specs.Tight.{Hull, IsGreatest, IsLeast, Tightest};
 
-use crate::fewest_hull::fewest_hull;
+use crate::fewest_hull::{fewest_hull, points_of};
 use crate::most_hull::most_hull;
 use count::fault::CountFault;
-use extremes::matching::most_of;
-use extremes::points::fewest_of;
+use extremes::matching::place_lots;
+use extremes::order::{Slot, by_last_day};
 use nvalue::count_window::CountWindow;
 use store::limits::LOTS;
 use store::season::Season;
@@ -41,53 +45,64 @@ fn tighten_season(season: Season, count: CountWindow, hull: &mut [Window]) -> Op
     requires each { length hull.old ≡ length season.windows.now }
     ensures { MatchOption result ((ds : List ℕ) → Choice season.entry.windows.now ds → Counts count.floor count.ceiling ds → ⊥) (λ tight. Tightest season.entry.windows.now count.floor count.ceiling hull.new tight.floor tight.ceiling) }
 {
-    let least = least_count(season);
-    let most = greatest_count(season);
+    let lots = season.windows.len();
+    let mut slots = [(0, 0); LOTS];
+    let order = by_last_day(season, &mut slots);
+    let mut room = [0; LOTS];
+    let fewest = points_of(season, order, &mut room);
+    let points = &room[..fewest];
+    let mut space = [0; LOTS];
+    let days = &mut space[..lots];
+    let most = best_of(season, order, days);
+    let least = fewest as u32;
     let floor = count.floor();
     let ceiling = count.ceiling();
     if ceiling < least || most < floor {
         return None;
     }
-    write_hull(season, least, most, count, hull);
+    write_hull(season, points, days, most, count, hull);
     CountWindow::new(floor.max(least), ceiling.min(most))
 }
 
 // Writes the tightest windows. A day is lost only where the ceiling is the least count or the floor the greatest, and not every choice has that count.
-fn write_hull(season: Season, least: u32, most: u32, count: CountWindow, hull: &mut [Window])
+// The points of a choice with the fewest days are as many as the least count, and `days` are a choice with the greatest.
+fn write_hull(
+    season: Season,
+    points: &[u32],
+    days: &[u32],
+    most: u32,
+    count: CountWindow,
+    hull: &mut [Window],
+)
     requires each { length hull.old ≡ length season.windows.now }
-    requires least { IsLeast season.windows.now least }
+    requires points { Points season.windows.now points.now }
+    requires least { IsLeast season.windows.now (length points.now) }
+    requires best { Best season.windows.now days.now }
     requires most { IsGreatest season.windows.now most }
-    requires reached { least ≤ count.ceiling }
+    requires reached { length points.now ≤ count.ceiling }
     requires within { count.floor ≤ most }
     ensures { Hull season.entry.windows.now (Counts count.floor count.ceiling) hull.new }
 {
+    let least = points.len() as u32;
     if least == most {
         hull.copy_from_slice(season.windows);
     } else if count.ceiling() == least {
-        fewest_hull(season, hull);
+        fewest_hull(season, points, hull);
     } else if count.floor() == most {
-        most_hull(season, hull);
+        most_hull(season, days, hull);
     } else {
         hull.copy_from_slice(season.windows);
     }
 }
 
-// The least count of any choice.
-fn least_count(season: Season) -> u32
-    ensures { IsLeast season.entry.windows.now result }
+// Writes a choice with the most different days, and answers how many it has.
+fn best_of(season: Season, order: &[Slot], days: &mut [u32]) -> u32
+    requires each { length days.old ≡ length season.windows.now }
+    requires shuffled { IsPermutation (slots 0 season.windows.now) order.now }
+    requires rises { IsNonDecreasingBy (λ s. s.0) order.now }
+    ensures best { Best season.entry.windows.now days.new }
+    ensures most { IsGreatest season.entry.windows.now result }
 {
-    let mut days = [0; LOTS];
-    let mut lots = [0; LOTS];
-    let n = season.windows.len();
-    fewest_of(season, &mut days[0..n], &mut lots) as u32
-}
-
-// The greatest count of any choice.
-fn greatest_count(season: Season) -> u32
-    ensures { IsGreatest season.entry.windows.now result }
-{
-    let mut days = [0; LOTS];
     let mut runs = [Window::default(); LOTS];
-    let n = season.windows.len();
-    most_of(season, &mut days[0..n], &mut runs).count as u32
+    place_lots(season, order, days, &mut runs).count as u32
 }

@@ -1,9 +1,9 @@
--- The windows from the first to the last days are the hull.
-use Rattle.std.proofs.Common.{arith, rules}
-use Rattle.tight.proofs.Firsts.{hull_from}
+-- In a new room all seats are free.
+use Rattle.tight.proofs.Seating.{none_held}
 use Rattle.tight.proofs.most_hull.most_hull.Goals as goal
 
-pub returns : goal.returns
-returns c =
-    hull_from c.args.season.windows.now c.first_days.new.firsts c.last_days.new.lasts c.loop-i.hull c.first_days.ensures c.last_days.ensures (search rules)
-    (λ i l. c.loop-i.invariant i (omega arith))
+pub hull_in-requires-clause-free : goal.hull_in-requires-clause-free
+hull_in-requires-clause-free c = none_held 512
+
+pub hull_in-requires-else-end_before-clause-free : goal.hull_in-requires-else-end_before-clause-free
+hull_in-requires-else-end_before-clause-free c = none_held 10000
