@@ -22,7 +22,7 @@ use Rattle.rules.proofs.Inside.{stricter_refl}
 use Rattle.narrow.proofs.Insides.{choice_stricter, each_from_get_or, stretch_same}
 
 -- a place lies outside a stretch or inside it
-outside_or_in : (first len i : ℕ) → ((i < first) ⊎ (first + len ≤ i)) ⊎ ((first ≤ i) × (i < first + len))
+pub outside_or_in : (first len i : ℕ) → ((i < first) ⊎ (first + len ≤ i)) ⊎ ((first ≤ i) × (i < first + len))
 outside_or_in first len i = elim (cases_lt i first) [
   | inl a ↦ inl (inl a)
   | inr a ↦ elim (cases_lt i (first + len)) [ inl b ↦ inr (a, b) | inr b ↦ inl (inr b) ]
@@ -203,4 +203,5 @@ module _ (ws is : List Window) (rules : List Row) (k least most : ℕ) (there : 
         keeps = keeps_now;
         firm = firm_now;
         others = elsewhere;
+        outside = outside;
       })

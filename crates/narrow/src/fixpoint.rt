@@ -9,7 +9,7 @@ ghost use Rattle.narrow.specs.Stepped.{Stepped};
 
 use crate::due::Due;
 use crate::fault::Inconsistent;
-use crate::moved::mark_moved;
+use crate::moved::{has_moved, mark_moved};
 use crate::one_rule::tighten_rule;
 use crate::problem::Problem;
 
@@ -34,7 +34,7 @@ pub fn narrow(problem: &mut Problem, mut due: Due) -> Result<(), Inconsistent>
     Ok(())
 }
 
-// Makes one rule firm, and marks the others that have a window which moved thereby.
+// Makes one rule firm, and marks the others that have a window which moved thereby. Most turns move none.
 fn turn(problem: &mut Problem, number: usize, due: &mut Due) -> Result<(), Inconsistent>
     requires there { number < length (rules_in problem.old) }
     ensures stepped { MatchResult result (λ _. Stepped (windows_of problem.old) (rules_in problem.old) number (windows_of problem.new) (rules_in problem.new)) (λ _. NoFirm (windows_of problem.old) (rules_in problem.old)) }
@@ -44,6 +44,8 @@ fn turn(problem: &mut Problem, number: usize, due: &mut Due) -> Result<(), Incon
 {
     let before = *problem;
     tighten_rule(problem, number)?;
-    mark_moved(&before, problem, number, due);
+    if has_moved(&before, problem, number) {
+        mark_moved(&before, problem, number, due);
+    }
     Ok(())
 }

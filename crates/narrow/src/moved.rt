@@ -5,6 +5,7 @@ ghost use Rattle.rules.specs.Plans.{stretch};
 ghost use Rattle.sheet.specs.Books.{lots_of, rule_at};
 ghost use Rattle.narrow.specs.Dues.{is_due};
 ghost use Rattle.narrow.specs.Problems.{windows_of, rules_in};
+ghost use Rattle.narrow.specs.Stepped.{KeepsOutside};
 
 use crate::due::Due;
 use crate::problem::Problem;
@@ -22,6 +23,17 @@ pub(crate) fn mark_moved(before: &Problem, after: &Problem, number: usize, due: 
             due.mark(q);
         }
     }
+}
+
+// Has a window moved where only those of one rule's stretch can have? They alone are compared.
+pub(crate) fn has_moved(before: &Problem, after: &Problem, number: usize) -> bool
+    requires there { number < length (rules_in before.now) }
+    requires lots { lots_of before.now.book ≡ lots_of after.now.book }
+    requires outside { KeepsOutside (rule_at (rules_in before.now) number) (windows_of before.now) (windows_of after.now) }
+    ensures { Decides (not result) (windows_of before.now ≡ windows_of after.now) }
+{
+    let row = before.book.rows()[number];
+    differ(before.windows(), after.windows(), row.stretch())
 }
 
 // Whether windows differ on a stretch.

@@ -26,6 +26,9 @@ same_trans us vs ws ps qs rs s t ds = (λ p. (t ds).0 ((s ds).0 p), λ p. (s ds)
 pub same_none : (ws vs : List Window) (rules qs : List Row) → SamePlans ws rules vs qs → NoPlan vs qs → NoPlan ws rules
 same_none ws vs rules qs s none ds p = none ds ((s ds).0 p)
 
+pub equal_none : (us ws : List Window) (ps rules : List Row) → us ≡ ws → ps ≡ rules → NoPlan us ps → NoPlan ws rules
+equal_none us ws ps rules e f none = subst (λ vs. NoPlan vs rules) e (subst (NoPlan us) f none)
+
 pub same_earliest : (ws vs : List Window) (rules qs : List Row) (ds : List ℕ) → SamePlans ws rules vs qs → Earliest vs qs ds → Earliest ws rules ds
 same_earliest ws vs rules qs ds s e = record { plan = (s ds).1 e.plan; first = λ es p. e.first es ((s es).0 p) }
 

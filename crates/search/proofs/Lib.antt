@@ -2,6 +2,7 @@
 pub mod Booked
 pub mod Joined
 pub mod Left
+pub mod Parted
 pub mod Swaps
 pub mod Trying
 pub mod Widths

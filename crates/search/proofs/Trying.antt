@@ -5,12 +5,12 @@ use Rattle.std.proofs.lemmas.List.Elements.{length_all_zip}
 use Rattle.std.proofs.ByRecursion.{All-get_or}
 use Rattle.store.specs.declared.window.Window.{Window}
 use Rattle.store.specs.Sound.{Sound}
-use Rattle.store.specs.Windows.{window}
+use Rattle.store.specs.Windows.{window, window_at}
 use Rattle.rules.specs.declared.row.Row.{Row}
 use Rattle.rules.specs.Firm.{Firm, Narrower}
 use Rattle.rules.specs.Plans.{Earliest}
 use Rattle.rules.proofs.Inside.{each_refl, each_trans}
-use Rattle.search.specs.Search.{FirstOpen, Raised, SamePlans, fixed, width}
+use Rattle.search.specs.Search.{Open, Raised, SamePlans, Single, fixed, width}
 use Rattle.search.proofs.Left.{earliest_fixed, same_earliest, same_refl, same_trans, single_narrower}
 use Rattle.search.proofs.Widths.{width_fixed, width_fixed_open, width_narrower}
 
@@ -22,7 +22,7 @@ pub record Trying (ws : List Window) (rules : List Row) (lot : ℕ) (vs : List W
   pub plans : SamePlans ws rules vs qs
   pub less : width (fixed vs lot) < width ws
 
-pub trying_none : (ws : List Window) (rules : List Row) (lot : ℕ) → AllByRecursion Sound ws → Firm ws rules → FirstOpen ws lot → Trying ws rules lot ws rules
+pub trying_none : (ws : List Window) (rules : List Row) (lot : ℕ) → AllByRecursion Sound ws → Firm ws rules → Open ws lot → Trying ws rules lot ws rules
 trying_none ws rules lot s f o = record {
   sound = s;
   firm = f;
@@ -31,7 +31,7 @@ trying_none ws rules lot s f o = record {
   less = width_fixed_open ws lot o.there o.many;
 }
 
-module _ (ws : List Window) (rules : List Row) (lot : ℕ) (o : FirstOpen ws lot) (vs : List Window) (qs : List Row) (t : Trying ws rules lot vs qs) where
+module _ (ws : List Window) (rules : List Row) (lot : ℕ) (o : Open ws lot) (vs : List Window) (qs : List Row) (t : Trying ws rules lot vs qs) where
   pub trying_length : length vs ≡ length ws
   trying_length = length_all_zip Narrower vs ws t.inside
 
@@ -47,10 +47,14 @@ module _ (ws : List Window) (rules : List Row) (lot : ℕ) (o : FirstOpen ws lot
         less = omega (arith, r.less, width_narrower vs ws t.inside, width_fixed us lot (omega (arith, o.there, trying_length)));
       }
 
-  -- the earliest plan with the first day is the earliest of all
-  pub trying_found : (ds : List ℕ) → Earliest (fixed vs lot) qs ds → Earliest ws rules ds
-  trying_found ds e =
-      let h : lot < length vs = omega (arith, o.there, trying_length) in
+  -- the lot is there still
+  pub trying_there : lot < length vs
+  trying_there = omega (arith, o.there, trying_length)
+
+  -- the earliest plan with the first day is the earliest of all, where the lots before have no choice
+  pub trying_found : ((k : ℕ) → k < lot → Single (window_at ws k)) → (ds : List ℕ) → Earliest (fixed vs lot) qs ds → Earliest ws rules ds
+  trying_found before ds e =
+      let h = trying_there in
       let full = All-get_or Sound vs lot (window 0 0) h t.sound in
-      let alone = single_narrower vs ws lot t.inside (omega (arith, o.there)) o.before in
+      let alone = single_narrower vs ws lot t.inside (omega (arith, o.there)) before in
       same_earliest ws vs rules qs ds t.plans (earliest_fixed vs qs lot h ds full.0 alone e)

@@ -12,10 +12,14 @@ use Rattle.rules.specs.Plans.{Plan}
 abbrev pub Single : Window → Type 0
 Single w = w.high ≤ w.low
 
--- the first lot whose window has more than one day
-pub record FirstOpen (ws : List Window) (lot : ℕ) : Type 0 where
+-- a lot whose window has more than one day
+pub record Open (ws : List Window) (lot : ℕ) : Type 0 where
   pub there : lot < length ws
   pub many : (window_at ws lot).low < (window_at ws lot).high
+
+-- the first such lot
+pub record FirstOpen (ws : List Window) (lot : ℕ) : Type 0 where
+  pub choice : Open ws lot
   pub before : (k : ℕ) → k < lot → Single (window_at ws k)
 
 -- the same plans, of two sheets

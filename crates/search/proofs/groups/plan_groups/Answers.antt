@@ -8,7 +8,7 @@ use Rattle.search.proofs.groups.plan_groups.Goals as goal
 pub loop-end-init : goal.loop-end-init
 loop-end-init c =
     let p = c.args.problem.now in
-    rw c.windows-end.ensures (omega arith, cut_end _ _ (rules_end p.book _ (problem_lots p)), earliest_end _ _ _ c.requires (rules_some p.book))
+    rw c.windows-end.ensures (omega arith, cut_end _ _ (rules_end p.book _ (problem_lots p)), earliest_end _ _ _ c.requires.each (rules_some p.book))
 
 pub returns-in_err-plan_part : goal.returns-in_err-plan_part
 returns-in_err-plan_part c =

@@ -33,16 +33,16 @@ pub pick-returns-in-None : goal.pick-returns-in-None
 pick-returns-in-None t c = single_none _ _ (subst (AllByRecursion Single) c.windows.ensures c.in-None.ensures) (not_from_Decides _ c.lows_keep.ensures c.if-lows_keep.false)
 
 pub try_days-loop-problem-init : goal.try_days-loop-problem-init
-try_days-loop-problem-init t c = trying_none _ _ _ c.args.problem.now.sound c.requires.firm c.requires.first
+try_days-loop-problem-init t c = trying_none _ _ _ c.args.problem.now.sound c.requires.firm c.requires.first.choice
 
 pub try_days-loop-problem-preserved : goal.try_days-loop-problem-preserved
 try_days-loop-problem-preserved t c =
     let us = windows_of c.go_on.new.problem in
     let ps = rules_in c.go_on.new.problem in
-    trying_more _ _ _ c.requires.first _ _ c.loop-problem.invariant us ps (subst (λ p. Raised (windows_of p) (rules_in p) us ps) c.in-Err.ensures.stay c.in_ok-go_on.ensures.raised)
+    trying_more _ _ _ c.requires.first.choice _ _ c.loop-problem.invariant us ps (subst (λ p. Raised (windows_of p) (rules_in p) us ps) c.in-Err.ensures.stay c.in_ok-go_on.ensures.raised)
 
 pub try_days-returns : goal.try_days-returns
-try_days-returns t c = trying_found _ _ _ c.requires.first _ _ c.loop-problem.invariant _ c.in_default.ensures.found
+try_days-returns t c = trying_found _ _ _ c.requires.first.choice _ _ c.loop-problem.invariant c.requires.first.before _ c.in_default.ensures.found
 
 pub try_low-hunt-requires : goal.try_low-hunt-requires
 try_low-hunt-requires t c = (

@@ -12,7 +12,7 @@ use Rattle.search.proofs.lows.first_open.Goals as goal
 first : (ws : List Window) (r : Option ℕ) → MatchOption r (AllWithin Single ws 0 (length ws)) (λ i. (i < length ws) × HoldsAt (λ w. w.low < w.high) ws i × AllWithin Single ws 0 i)
     → MatchOption r (AllByRecursion Single ws) (FirstOpen ws)
 first ws None h = All-from_get_or Single ws (window 0 0) (λ k l. h k (window 0 0) (omega arith) l)
-first ws (Some i) h = record { there = h.0; many = h.1 (window 0 0); before = λ k l. h.2 k (window 0 0) (omega arith) l }
+first ws (Some i) h = record { choice = record { there = h.0; many = h.1 (window 0 0) }; before = λ k l. h.2 k (window 0 0) (omega arith) l }
 
 pub returns : goal.returns
 returns c =

@@ -6,7 +6,7 @@ use Rattle.narrow.specs.Problems.{rules_in, windows_of}
 use Rattle.search.proofs.Booked.{firm_others}
 use Rattle.search.proofs.Left.{past_last, raised, raised_none}
 use Rattle.search.proofs.Swaps.{skipped}
-use Rattle.search.proofs.hunt.go_on.Goals as goal
+use Rattle.search.proofs.first_day.go_on.Goals as goal
 
 pub returns-then-day-windows-clause-raised : goal.returns-then-day-windows-clause-raised
 returns-then-day-windows-clause-raised c =

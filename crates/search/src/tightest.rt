@@ -1,0 +1,53 @@
+// Which lot to try first where a problem is thought to have no plan.
+ghost use Rattle.std.specs.Prelude.{◌<◌, length, MatchOption};
+ghost use Rattle.std.specs.List.{AllByRecursion};
+ghost use Rattle.store.specs.Windows.{window_at};
+ghost use Rattle.narrow.specs.Problems.{windows_of};
+ghost use Rattle.search.specs.Search.{Open, Single};
+
+use crate::lows::first_open;
+use narrow::problem::Problem;
+use sheet::book::Book;
+use store::window::Window;
+
+// Of the lots with a choice one with the smallest width for each rule over it, so that few tries tell most; those under no rule come last.
+// Which of them it is, is speed and no promise.
+pub(crate) fn tightest(problem: &Problem) -> Option<usize>
+    ensures { MatchOption result (AllByRecursion Single (windows_of problem.now)) (Open (windows_of problem.now)) }
+{
+    let windows = problem.windows();
+    let mut best = first_open(windows)?;
+    for (lot, window) in windows.iter().enumerate() {
+        if window.low < window.high && is_tighter(problem, lot, best) {
+            best = lot;
+        }
+    }
+    Some(best)
+}
+
+// Has a lot a smaller width for each rule over it than another? Multiplied out, as there may be no rule.
+fn is_tighter(problem: &Problem, lot: usize, other: usize) -> bool
+    requires lot { lot < length (windows_of problem.now) }
+    requires other { other < length (windows_of problem.now) }
+{
+    let windows = problem.windows();
+    let rules = rules_over(&problem.book, lot);
+    let other_rules = rules_over(&problem.book, other);
+    width(windows[lot]).saturating_mul(other_rules) < width(windows[other]).saturating_mul(rules)
+}
+
+// The days of a window beyond its first.
+fn width(window: Window) -> u32 {
+    window.high.saturating_sub(window.low)
+}
+
+// How many rules are over a lot.
+fn rules_over(book: &Book, lot: usize) -> u32 {
+    let mut many: u32 = 0;
+    for row in book.rows() {
+        if row.stretch().has(lot) {
+            many = many.saturating_add(1);
+        }
+    }
+    many
+}
