@@ -1,4 +1,7 @@
 // A small sheet: the windows of a few lots, and a few rules over them.
+ghost use Rattle.std.specs.Prelude.{◌≡◌, IfOk};
+ghost use Rattle.answers.specs.Smalls.{Holds, days_of, windows_of};
+
 use rules::row::Row;
 use std::alloc::{AllocError, Global};
 use store::window::Window;
@@ -11,7 +14,9 @@ pub struct Small {
 
 impl Small {
     // A sheet of these first and last days.
-    pub fn new(alloc: Global, ends: &[(u32, u32)], rules: &[Row]) -> Result<Small, AllocError> {
+    pub fn new(alloc: Global, ends: &[(u32, u32)], rules: &[Row]) -> Result<Small, AllocError>
+        ensures { IfOk result (λ sheet. Holds sheet (windows_of ends.now) rules.now) }
+    {
         Ok(Small {
             windows: ends
                 .iter()
@@ -22,7 +27,9 @@ impl Small {
     }
 
     // A sheet that leaves each lot just this day.
-    pub fn fixed(alloc: Global, days: &[u32], rules: &[Row]) -> Result<Small, AllocError> {
+    pub fn fixed(alloc: Global, days: &[u32], rules: &[Row]) -> Result<Small, AllocError>
+        ensures { IfOk result (λ sheet. Holds sheet (days_of days.now) rules.now) }
+    {
         Ok(Small {
             windows: days.iter().map(|day| window(*day, *day)).collect(alloc)?,
             rules: rules.to_vec(alloc)?,
@@ -31,12 +38,16 @@ impl Small {
 }
 
 // The days from `low` to `high`.
-pub fn window(low: u32, high: u32) -> Window {
+pub fn window(low: u32, high: u32) -> Window
+    ensures { result ≡ record { low = low; high = high } }
+{
     Window { low, high }
 }
 
 // The `length` lots from the lot `first` on take from `floor` to `ceiling` different days.
-pub fn rule(first: usize, length: usize, floor: u32, ceiling: u32) -> Row {
+pub fn rule(first: usize, length: usize, floor: u32, ceiling: u32) -> Row
+    ensures { result ≡ record { first = first; length = length; floor = floor; ceiling = ceiling } }
+{
     Row {
         first,
         length,

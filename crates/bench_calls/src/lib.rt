@@ -3,11 +3,10 @@
 
 pub mod planning;
 
-ghost use Rattle.std.specs.Prelude.{◌⊎◌, ◌≡◌, ℕ};
+ghost use Rattle.std.specs.Prelude.{length};
 ghost use Rattle.store.specs.Pairs.{paired};
-ghost use Rattle.nvalue.specs.Choices.{part};
-ghost use Rattle.tight.specs.Tight.{Tightest};
-ghost use Rattle.count.specs.Asked.{FewestAnswer, MostAnswer};
+ghost use Rattle.count.specs.Asked.{FewestAnswer, MostShown};
+ghost use Rattle.bench_calls.specs.Counted.{AsksWords, TightensWords};
 
 use bottom::words::WordStore;
 use count::fewest::fewest;
@@ -17,7 +16,7 @@ use store::window::Window;
 use tight::count_window::CountWindow;
 use tight::tight::tighten;
 
-// The fewest days of the first `lots` lots, 0 where the question is refused.
+// The fewest days of the first `lots` lots; 0 where the question is refused.
 #[unsafe(no_mangle)]
 pub extern "C" fn bench_fewest(
     words: &mut [u32],
@@ -25,7 +24,7 @@ pub extern "C" fn bench_fewest(
     answer: &mut [u32],
     work: &mut [u32],
 ) -> usize
-    ensures { (result ≡ 0) ⊎ FewestAnswer (part (paired words.old) 0 lots) 0 answer.old answer.new result }
+    ensures { AsksWords FewestAnswer (λ m. m) (length work.old) (paired words.old) lots answer.old result answer.new }
 {
     let all = Stretch {
         first: 0,
@@ -42,7 +41,7 @@ pub extern "C" fn bench_most(
     answer: &mut [u32],
     work: &mut [u32],
 ) -> usize
-    ensures { (result ≡ 0) ⊎ ((s : ℕ) × MostAnswer (part (paired words.old) 0 lots) answer.old answer.new result s) }
+    ensures { AsksWords MostShown (λ shown. shown.count) (length work.old) (paired words.old) lots answer.old result answer.new }
 {
     let all = Stretch {
         first: 0,
@@ -54,13 +53,14 @@ pub extern "C" fn bench_most(
 // Narrows windows to the tightest for a count window, and gives the new ceiling; 0 where no choice is left or the question is refused.
 #[unsafe(no_mangle)]
 pub extern "C" fn bench_tighten(windows: &mut [Window], floor: u32, ceiling: u32) -> u32
-    ensures { (result ≡ 0) ⊎ ((least : ℕ) × Tightest windows.old floor ceiling windows.new least result) }
+    ensures { TightensWords windows.old floor ceiling result windows.new }
 {
     let Some(count) = CountWindow::new(floor, ceiling) else {
         return 0;
     };
     match tighten(windows, count) {
         Ok(Some(tight)) => tight.ceiling(),
-        _ => 0,
+        Ok(None) => 0,
+        Err(_) => 0,
     }
 }

@@ -1,19 +1,18 @@
 // C calls to settle and plan. Windows are words, low and high of each lot in turn; a rule is four words: first lot, length, floor, ceiling.
-ghost use Rattle.std.specs.Prelude.{List, ◌++◌, ◌≡◌, ℕ, length, drop};
+ghost use Rattle.std.specs.Prelude.{◌+◌, ◌*◌, ◌≡◌, ◌≤◌, ℕ, List, ◌++◌, length};
 ghost use Rattle.store.specs.Pairs.{paired};
-ghost use Rattle.rules.specs.declared.row.Row.{Row};
-ghost use Rattle.rules.specs.Plans.{Earliest};
+ghost use Rattle.bench_calls.specs.Planned.{PlansWords, rules_in};
 
 use bottom::words::WordStore;
-use nvalue::stretch::Stretch;
 use plan::planning::plan;
+use rules::row::Row;
 use sheet::book::Book;
-use sheet::fault::SheetFault;
-use sheet::slip::Closed;
-use sheet::start::{add_rule, start};
-use store::store::WindowStore;
+use sheet::start::closed;
 
-// Starts a sheet, adds the rules, closes it and plans it: 0, and the answer words begin with an earliest plan; or the number of the refusal.
+// One more than a book holds: so of more rules than that, one among these is refused.
+const ROWS: usize = 33;
+
+// Starts a sheet, adds the rules, closes it and plans it: 0, and the answer words begin with the earliest plan; or the number of the first refusal. A rest of fewer than four words is no rule.
 #[unsafe(no_mangle)]
 pub extern "C" fn bench_plan(
     words: &mut [u32],
@@ -21,11 +20,15 @@ pub extern "C" fn bench_plan(
     answer: &mut [u32],
     work: &mut [u32],
 ) -> u32
-    ensures { result ≡ 0 → (kept : List Row) × (ds : List ℕ) × Earliest (paired words.old) kept ds × (answer.new ≡ ds ++ drop (length (paired words.old)) answer.old) }
+    ensures { PlansWords (length work.old) (paired words.old) (rules_in rules.now) answer.old result answer.new }
 {
     let house = WordStore::new(words);
+    let count = (rules.len() / 4).min(ROWS);
+    let mut space = [Row::default(); ROWS];
+    let rows = &mut space[..count];
+    read_rules(rules, rows);
     let mut book = Book::empty(0);
-    let slip = match closed(&house, &mut book, rules) {
+    let slip = match closed(&house, &mut book, rows) {
         Ok(slip) => slip,
         Err(fault) => return fault.number(),
     };
@@ -37,20 +40,22 @@ pub extern "C" fn bench_plan(
     }
 }
 
-// A closed sheet with these rules, or the first refusal.
-fn closed<S: WindowStore>(house: &S, book: &mut Book, rules: &[u32]) -> Result<Closed, SheetFault> {
-    let mut slip = start(house, book)?;
-    for row in rules.chunks_exact(4) {
-        if let [first, length, floor, ceiling] = row {
-            let stretch = Stretch {
-                first: *first as usize,
-                length: *length as usize,
-            };
-            if let Err(fault) = add_rule(&mut slip, book, stretch, *floor, *ceiling) {
-                slip.put_away();
-                return Err(fault);
-            }
-        }
+// Fills the rows with the rules that the first words hold.
+fn read_rules(words: &[u32], rows: &mut [Row])
+    requires { 4 * length rows.old ≤ length words.now }
+    ensures { (rest : List ℕ) × (rules_in words.now ≡ rows.new ++ rules_in rest) × (length rest + 4 * length rows.new ≡ length words.now) }
+{
+    let mut rest = words;
+    for row in rows.iter_mut() {
+        let [first, length, floor, ceiling, others @ ..] = rest else {
+            return;
+        };
+        *row = Row {
+            first: *first as usize,
+            length: *length as usize,
+            floor: *floor,
+            ceiling: *ceiling,
+        };
+        rest = others;
     }
-    Ok(slip.close())
 }

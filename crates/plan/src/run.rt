@@ -12,7 +12,7 @@ use std::alloc::{AllocError, Global};
 use store::store::WindowStore;
 
 // Makes one call after the other, each on what the one before left, and gives back what each answered. Memory for the answers is got first: where there is none,
-// nothing was called. Whatever the calls and their answers, the plans that are left are just those that meet every ask which was accepted.
+// nothing was called. Where the windows are in the end as they were, so is the store, memory and all. Whatever the calls and their answers, the plans that are left are just those that meet every ask which was accepted.
 // Slip, store, book, answer and working words are parameters of their own: plan only reads store and book and settle writes both, so no one struct could lend them for either.
 pub fn make_calls<S: WindowStore>(
     heap: Global,
@@ -25,6 +25,7 @@ pub fn make_calls<S: WindowStore>(
 ) -> Result<Vec<Outcome>, AllocError>
     ensures runs { MatchResult result (λ outcomes. Runs slip.now calls.now (state (S.WindowStore.windows store.old) book.old answer.old work.old) outcomes.items (state (S.WindowStore.windows store.new) book.new answer.new work.new)) (λ _. (store.new ≡ store.old) × (book.new ≡ book.old) × (answer.new ≡ answer.old) × (work.new ≡ work.old)) }
     ensures plans { IfOk result (λ outcomes. PlansLeft calls.now (state (S.WindowStore.windows store.old) book.old answer.old work.old) outcomes.items (state (S.WindowStore.windows store.new) book.new answer.new work.new)) }
+    ensures still { S.WindowStore.windows store.new ≡ S.WindowStore.windows store.old → store.new ≡ store.old }
     ensures framed { S.WindowStore.frame store.new ≡ S.WindowStore.frame store.old }
 {
     let mut outcomes = Vec::with_capacity(heap, calls.len())?;
@@ -45,6 +46,7 @@ fn make_each<S: WindowStore>(
     requires none { outcomes.old.items ≡ [] }
     requires room { length calls.now ≤ vec_capacity outcomes.old }
     ensures runs { Runs slip.now calls.now (state (S.WindowStore.windows store.old) book.old answer.old work.old) outcomes.new.items (state (S.WindowStore.windows store.new) book.new answer.new work.new) }
+    ensures still { S.WindowStore.windows store.new ≡ S.WindowStore.windows store.old → store.new ≡ store.old }
     ensures framed { S.WindowStore.frame store.new ≡ S.WindowStore.frame store.old }
 {
     for call in calls {
@@ -54,7 +56,7 @@ fn make_each<S: WindowStore>(
 }
 
 // Makes one call. A `match`, since a list of calls is plain values that a house hands over, and of no other kinds.
-// The clause `framed` is about the caller's store, before and after the call: no type of the planner holds that.
+// The clauses `still` and `framed` are about the caller's store, before and after the call: no type of the planner holds that.
 pub fn make_call<S: WindowStore>(
     slip: &Closed,
     store: &mut S,
@@ -64,6 +66,7 @@ pub fn make_call<S: WindowStore>(
     work: &mut [u32],
 ) -> Outcome
     ensures makes { Makes slip.now call (state (S.WindowStore.windows store.old) book.old answer.old work.old) result (state (S.WindowStore.windows store.new) book.new answer.new work.new) }
+    ensures still { S.WindowStore.windows store.new ≡ S.WindowStore.windows store.old → store.new ≡ store.old }
     ensures framed { S.WindowStore.frame store.new ≡ S.WindowStore.frame store.old }
 {
     match call {

@@ -10,5 +10,6 @@ returns g c =
     record {
       runs = c.make_each.ensures.runs;
       plans = runs_left c.args.slip.now c.args.calls.now before after (vec_items c.make_each.new.outcomes) c.make_each.ensures.runs;
+      still = c.make_each.ensures.still;
       framed = c.make_each.ensures.framed;
     }

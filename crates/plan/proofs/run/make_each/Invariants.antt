@@ -1,4 +1,6 @@
 use Rattle.std.proofs.Common.{◌≡◌, take, vec_items, vec_len, vec_capacity}
+use Rattle.std.specs.List.{AllZip}
+use Rattle.rules.specs.Firm.{Narrower}
 use Rattle.plan.specs.Calls.{Runs, state}
 use Rattle.plan.proofs.run.make_each.Given as goal
 
@@ -8,3 +10,5 @@ invariant-loop-call g l =
     × (g.S.WindowStore.frame l.store ≡ g.S.WindowStore.frame l.initial.store)
     × (vec_len l.outcomes ≡ l.call-index)
     × (vec_capacity l.outcomes ≡ vec_capacity l.initial.outcomes)
+    × AllZip Narrower (g.S.WindowStore.windows l.store) (g.S.WindowStore.windows l.initial.store)
+    × (g.S.WindowStore.windows l.store ≡ g.S.WindowStore.windows l.initial.store → l.store ≡ l.initial.store)
