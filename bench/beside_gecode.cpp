@@ -248,6 +248,26 @@ Sheet mixed(Draw &draw, uint32_t lots, uint32_t slack)
     return sheet;
 }
 
+/* The same shape with a plan: days are drawn first, and every rule holds for them, one in two with no room to spare. */
+Sheet mixed_with_a_plan(Draw &draw, uint32_t lots)
+{
+    Sheet sheet = scatter(draw, lots, 6, 8);
+    std::vector<uint32_t> days;
+    for (const Window &w : sheet.windows)
+        days.push_back(w.low + draw.below(w.high - w.low + 1));
+    for (uint32_t first = 0; first + 12 <= lots && sheet.rules.size() + 3 <= 32; first += 12)
+        for (uint32_t i = 0; i < 3; i++) {
+            std::vector<uint32_t> stretch(days.begin() + first + 2 * i, days.begin() + first + 2 * i + 8);
+            std::sort(stretch.begin(), stretch.end());
+            uint32_t count = uint32_t(std::unique(stretch.begin(), stretch.end()) - stretch.begin()), slack = draw.below(2);
+            if (i == 1)
+                sheet.rules.push_back({first + 2 * i, 8, count - std::min(count - 1, slack), 256});
+            else
+                sheet.rules.push_back({first + 2 * i, 8, 0, count + slack});
+        }
+    return sheet;
+}
+
 /* Every rule is firm, and yet three lots on two days want three different ones of each pair but the first and the last. */
 Sheet after_search(Draw &draw, uint32_t width)
 {
@@ -259,6 +279,23 @@ Sheet after_search(Draw &draw, uint32_t width)
         sheet.rules.push_back({24 * g, 2, 1, 1});
         sheet.rules.push_back({24 * g + 1, 2, 1, 1});
         sheet.rules.push_back({24 * g, 3, g == 9 ? 2u : 1u, 3});
+    }
+    return sheet;
+}
+
+/* Stretches of many lengths that overlap, each with a ceiling at the fewest or up to two above, or a floor at the most or up to two below: most have no plan, and many show it only after search. */
+Sheet near_limits(Draw &draw)
+{
+    uint32_t lots = 20 + draw.below(60), width = 3 + draw.below(12), season = 6 + draw.below(40);
+    Sheet sheet = scatter(draw, lots, width, season);
+    uint32_t rules = 3 + draw.below(10);
+    for (uint32_t i = 0; i < rules; i++) {
+        uint32_t length = 4 + draw.below(std::min(lots - 4, 20u)), first = draw.below(lots - length + 1);
+        uint32_t few = fewest(sheet, first, length), many = most(sheet, first, length);
+        if (draw.below(2))
+            sheet.rules.push_back({first, length, 0, few + draw.below(3)});
+        else
+            sheet.rules.push_back({first, length, many - std::min(many - 1, draw.below(3)), 256});
     }
     return sheet;
 }
@@ -279,8 +316,10 @@ int main()
     family("32 overlapping stretches of 8 to 40, ceilings two above", 5, [](Draw &d) { return overlapping(d, 2); });
     family("floors and ceilings mixed, 24 lots", 6, [](Draw &d) { return mixed(d, 24, 3); });
     family("floors and ceilings mixed, 132 lots", 7, [](Draw &d) { return mixed(d, 132, 3); });
+    family("floors and ceilings mixed, 132 lots, with a plan", 16, [](Draw &d) { return mixed_with_a_plan(d, 132); });
     family("impossible only after search, windows of 10 days", 8, [](Draw &d) { return after_search(d, 9); });
     family("impossible only after search, windows of 1,000 days", 9, [](Draw &d) { return after_search(d, 999); });
+    family("stretches of many kinds, ends near their limits", 777, near_limits);
     family("one rule over 256 lots, ceiling at the fewest", 10, [](Draw &d) {
         Sheet sheet = scatter(d, 256, 30, 300);
         sheet.rules.push_back({0, 256, 0, fewest(sheet, 0, 256)});
