@@ -5,7 +5,7 @@ use Rattle.nvalue.specs.Choices.{Choice}
 use Rattle.nvalue.specs.Nvalue.{Counts}
 use Rattle.count.specs.declared.fault.CountFault.{CountFault}
 use Rattle.count.specs.Asked.{Asks, Unfit}
-use Rattle.tight.specs.Tight.{Tightest}
+use Rattle.propagator.specs.Tight.{Tightest}
 
 -- A question about the first `lots` lots: it is answered as over any store, and the number is that of its answer, or 0 where it is refused.
 abbrev pub AsksWords : {C : Type 0} → (List Window → ℕ → List ℕ → List ℕ → C → Type 0) → (C → ℕ) → ℕ → List Window → ℕ → List ℕ → ℕ → List ℕ → Type 0

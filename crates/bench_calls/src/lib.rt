@@ -8,13 +8,13 @@ ghost use Rattle.store.specs.Pairs.{paired};
 ghost use Rattle.count.specs.Asked.{FewestAnswer, MostShown};
 ghost use Rattle.bench_calls.specs.Counted.{AsksWords, TightensWords};
 
-use bottom::words::WordStore;
+use base_stores::words::WordStore;
 use count::fewest::fewest;
 use count::most::most;
 use count::stretch::Stretch;
 use store::window::Window;
-use tight::count_window::CountWindow;
-use tight::tight::tighten;
+use propagator::count_window::CountWindow;
+use propagator::tight::tighten;
 
 // The fewest days of the first `lots` lots; 0 where the question is refused.
 #[unsafe(no_mangle)]

@@ -3,7 +3,7 @@ ghost use Rattle.std.specs.Prelude.{◌+◌, ◌*◌, ◌≡◌, ◌≤◌, ℕ,
 ghost use Rattle.store.specs.Pairs.{paired};
 ghost use Rattle.bench_calls.specs.Planned.{PlansWords, rules_in};
 
-use bottom::words::WordStore;
+use base_stores::words::WordStore;
 use plan::planning::plan;
 use rules::row::Row;
 use sheet::book::Book;

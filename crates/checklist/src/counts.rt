@@ -1,10 +1,10 @@
 // The fewest and the most days of a stretch, with what shows them, in days and in weeks.
-use bottom::words::WordStore;
+use base_stores::words::WordStore;
 use calendar::period::{Period, PeriodLength};
 use count::fewest::fewest;
 use count::most::most;
 use count::stretch::Stretch;
-use page::guard::WORDS;
+use guard::guard::WORDS;
 use std::io;
 use store::store::WindowStore;
 

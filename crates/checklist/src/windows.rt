@@ -1,6 +1,6 @@
 // The windows of a house, read and moved in each calendar.
-use bottom::masks::MaskStore;
-use bottom::words::WordStore;
+use base_stores::masks::MaskStore;
+use base_stores::words::WordStore;
 use calendar::dispatch::Dispatch;
 use calendar::period::{Period, PeriodLength};
 use std::io;

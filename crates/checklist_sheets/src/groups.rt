@@ -1,9 +1,9 @@
 // An early group and a late one: settled and planned by lists of calls, in each calendar, and the early one extracted.
 use crate::told::{show_days, show_outcome, show_rules, show_windows};
-use bottom::words::WordStore;
+use base_stores::words::WordStore;
 use calendar::dispatch::Dispatch;
 use calendar::period::{Period, PeriodLength};
-use page::guard::WORDS;
+use guard::guard::WORDS;
 use plan::calls::Call;
 use plan::run::make_calls;
 use rules::row::Row;

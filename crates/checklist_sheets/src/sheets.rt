@@ -1,8 +1,8 @@
 // A house's sheet: rules, asks, settle and plan, and what a refusal leaves.
 use crate::told::{show_rules, show_windows};
-use bottom::words::WordStore;
+use base_stores::words::WordStore;
 use nvalue::stretch::Stretch;
-use page::guard::WORDS;
+use guard::guard::WORDS;
 use plan::planning::plan;
 use sheet::asks::{at_most, not_before};
 use sheet::book::Book;

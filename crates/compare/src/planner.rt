@@ -1,10 +1,10 @@
 // The planner on a small sheet.
 use answers::answer::Answer;
 use answers::small::Small;
-use bottom::words::WordStore;
+use base_stores::words::WordStore;
 use count::fewest::fewest;
 use count::most::most;
-use page::guard::WORDS;
+use guard::guard::WORDS;
 use plan::planning::plan;
 use plan::settle::settle;
 use rules::row::Row;

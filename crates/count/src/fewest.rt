@@ -2,7 +2,7 @@
 ghost use Rattle.std.specs.Prelude.{◌≡◌, ◌+◌, ◌*◌, ◌<◌, ◌≤◌, map, length};
 ghost use Rattle.std.specs.List.{AllByRecursion};
 ghost use Rattle.count.specs.Asked.{Asks, FewestAnswer};
-ghost use Rattle.page.specs.Cleared.{Cleared};
+ghost use Rattle.guard.specs.Cleared.{Cleared};
 
 use crate::fault::CountFault;
 use crate::question::{Question, ask};

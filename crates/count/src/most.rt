@@ -2,14 +2,14 @@
 ghost use Rattle.std.specs.Prelude.{◌≡◌, ◌+◌, ◌*◌, ◌<◌, length};
 ghost use Rattle.store.specs.Pairs.{paired};
 ghost use Rattle.count.specs.Asked.{Asks, MostShown};
-ghost use Rattle.page.specs.Cleared.{Cleared};
+ghost use Rattle.guard.specs.Cleared.{Cleared};
 
 use crate::fault::CountFault;
 use crate::question::{Question, ask};
 pub use extremes::matching::Most;
 use extremes::matching::most_of;
 use nvalue::stretch::Stretch;
-use page::windows::put_window;
+use guard::windows::put_window;
 use store::limits::LOTS;
 use store::season::Season;
 use store::store::WindowStore;

@@ -4,12 +4,12 @@ ghost use Rattle.store.specs.declared.window.Window.{Window};
 ghost use Rattle.nvalue.specs.Choices.{part};
 ghost use Rattle.count.specs.Asked.{Asks};
 ghost use Rattle.count.specs.declared.fault.CountFault.TheVariants.{NoSuchStretch};
-ghost use Rattle.page.specs.Cleared.{Cleared};
+ghost use Rattle.guard.specs.Cleared.{Cleared};
 
 use crate::fault::CountFault;
 use nvalue::stretch::Stretch;
-use page::guard::{Page, WORDS};
-use page::windows::take_season;
+use guard::guard::{Page, WORDS};
+use guard::windows::take_season;
 use store::limits::LOTS;
 use store::season::Season;
 use store::store::WindowStore;

@@ -1,6 +1,6 @@
 // The fewest and the most days, with what shows them.
 use crate::house::{few, few_of_all, lots, many_of_all};
-use bottom::words::WordStore;
+use base_stores::words::WordStore;
 use calendar::period::{Period, PeriodLength};
 use count::fewest::fewest;
 use count::most::{Most, most};

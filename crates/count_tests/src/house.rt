@@ -1,5 +1,5 @@
 // What the tests share: asking about windows on words.
-use bottom::words::WordStore;
+use base_stores::words::WordStore;
 use count::fault::CountFault;
 use count::fewest::fewest;
 use count::most::{Most, most};

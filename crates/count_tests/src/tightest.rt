@@ -2,8 +2,8 @@
 use count::fault::CountFault;
 use std::test::Fail;
 use store::window::Window;
-use tight::count_window::CountWindow;
-use tight::tight::tighten;
+use propagator::count_window::CountWindow;
+use propagator::tight::tighten;
 
 fn window(low: u32, high: u32) -> Window {
     Window { low, high }

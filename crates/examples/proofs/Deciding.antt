@@ -4,7 +4,7 @@ use Rattle.std.specs.List.{AllZip, AllByRecursion}
 use Rattle.std.proofs.lemmas.Bool.{cases_lt, leb-true, eqb-true}
 use Rattle.store.specs.declared.window.Window.{Window}
 use Rattle.store.specs.Windows.{window, window_at, moves}
-use Rattle.bottom.specs.Masks.{window_of_mask, filled}
+use Rattle.base_stores.specs.Masks.{window_of_mask, filled}
 use Rattle.calendar.specs.Calendars.{window_before_dispatch, in_periods}
 use Rattle.nvalue.specs.Choices.{Choice, Crowded, Disjoint, ShareNoDay, load, size, surplus}
 use Rattle.nvalue.specs.Nvalue.{nvalue}

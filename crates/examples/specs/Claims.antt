@@ -2,7 +2,7 @@
 use Rattle.std.specs.Prelude.{◌≡◌, ℕ, ◌-◌, ◌*◌, ◌+◌, List, [], ◌∷◌, length, Ok}
 use Rattle.store.specs.declared.window.Window.{Window}
 use Rattle.store.specs.Windows.{Raises, Lowers}
-use Rattle.bottom.specs.Masks.{window_of_mask, filled}
+use Rattle.base_stores.specs.Masks.{window_of_mask, filled}
 use Rattle.calendar.specs.Calendars.{window_before_dispatch, in_periods}
 use Rattle.nvalue.specs.Nvalue.{nvalue}
 use Rattle.rules.specs.declared.row.Row.{Row}

@@ -7,7 +7,7 @@ ghost use Rattle.file.specs.Format.{rule_bytes, rules_bytes, trailer, SmallRule}
 ghost use Rattle.file.specs.Writes.{Writes};
 
 use crate::fault::FileFault;
-use page::windows::take_season;
+use guard::windows::take_season;
 use rules::row::Row;
 use sheet::book::Book;
 use sheet::fault::SheetFault;

@@ -1,6 +1,6 @@
 // The rules of a file added to a book: all of them or none.
 use crate::house::bytes_of;
-use bottom::words::WordStore;
+use base_stores::words::WordStore;
 use file::fault::FileFault;
 use file::rows::add_rules;
 use rules::row::Row;

@@ -1,7 +1,7 @@
 // Sheets written, byte for byte; 0xEE is a byte that the caller had there.
 use crate::house::{EMPTY, FIVE_LOTS, longest};
-use bottom::masks::MaskStore;
-use bottom::words::WordStore;
+use base_stores::masks::MaskStore;
+use base_stores::words::WordStore;
 use file::fault::FileFault;
 use file::read::read;
 use file::rows::add_rules;

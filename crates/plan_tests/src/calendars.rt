@@ -1,7 +1,7 @@
 // The same sheet over every store: counts belong to the calendar that is shown.
 use crate::house::{planned, rule, settled};
-use bottom::masks::MaskStore;
-use bottom::words::WordStore;
+use base_stores::masks::MaskStore;
+use base_stores::words::WordStore;
 use calendar::dispatch::Dispatch;
 use calendar::period::{Period, PeriodLength};
 use sheet::book::Book;

@@ -1,6 +1,6 @@
 // Lists of calls, refused ones among them.
 use crate::house::{closed, counts, rule};
-use bottom::words::WordStore;
+use base_stores::words::WordStore;
 use plan::calls::{Call, Outcome};
 use plan::run::make_calls;
 use sheet::book::Book;

@@ -1,6 +1,6 @@
 // Sheets small enough to settle and plan by hand.
 use crate::house::{counts, planned, rule, settled};
-use bottom::words::WordStore;
+use base_stores::words::WordStore;
 use sheet::book::Book;
 use sheet::fault::SheetFault;
 

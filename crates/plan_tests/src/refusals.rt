@@ -1,6 +1,6 @@
 // Each refusal of settle and plan at its edge, in the order of the checks, and the working words after it.
 use crate::house::{closed, rule};
-use bottom::words::WordStore;
+use base_stores::words::WordStore;
 use plan::planning::plan;
 use plan::settle::settle;
 use sheet::book::Book;

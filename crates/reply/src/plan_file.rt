@@ -5,11 +5,11 @@ ghost use Rattle.rules.specs.declared.row.Row.{Row};
 ghost use Rattle.file.specs.Format.{rules_bytes};
 ghost use Rattle.reply.specs.Files.{Holds, PlansFile};
 
-use bottom::words::WordStore;
+use base_stores::words::WordStore;
 use file::fault::FileFault;
 use file::read::read;
 use file::rows::add_rules;
-use page::guard::WORDS;
+use guard::guard::WORDS;
 use plan::planning::plan;
 use sheet::book::Book;
 use sheet::start::start;

@@ -12,11 +12,11 @@ use Rattle.rules.specs.Firm.{FirmRule, Used, Counted}
 use Rattle.rules.specs.Plans.{stretch}
 use Rattle.sheet.specs.declared.book.Book.{Book}
 use Rattle.sheet.specs.Books.{rules_of, lots_of, row, rule_at}
-use Rattle.narrow.proofs.Fitted.{rule_fits}
-use Rattle.narrow.specs.declared.due.Due.{Due}
-use Rattle.narrow.specs.declared.problem.Problem.{Problem}
-use Rattle.narrow.specs.Dues.{is_due}
-use Rattle.narrow.specs.Problems.{windows_of}
+use Rattle.propagation.proofs.Fitted.{rule_fits}
+use Rattle.propagation.specs.declared.due.Due.{Due}
+use Rattle.propagation.specs.declared.problem.Problem.{Problem}
+use Rattle.propagation.specs.Dues.{is_due}
+use Rattle.propagation.specs.Problems.{windows_of}
 use Rattle.search.specs.Search.{Over}
 
 -- a problem has as many windows as its book has lots

@@ -1,8 +1,8 @@
 -- What a search for the earliest plan answers.
 use Rattle.std.specs.Prelude.{Result, MatchResult}
 use Rattle.rules.specs.Plans.{Earliest, NoPlan, lows}
-use Rattle.narrow.specs.declared.problem.Problem.{Problem}
-use Rattle.narrow.specs.Problems.{windows_of, rules_in}
+use Rattle.propagation.specs.declared.problem.Problem.{Problem}
+use Rattle.propagation.specs.Problems.{windows_of, rules_in}
 use Rattle.search.specs.declared.fault.Infeasible.{Infeasible}
 
 -- the earliest plan, as the first day of each window that is left; or that the problem had none

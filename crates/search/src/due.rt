@@ -1,12 +1,12 @@
 // Which rules are due again once a lot's window has changed: those over the lot.
 ghost use Rattle.std.specs.Prelude.{◌≡◌, ℕ, ◌<◌, false, length};
 ghost use Rattle.sheet.specs.Books.{rule_at};
-ghost use Rattle.narrow.specs.Dues.{is_due};
-ghost use Rattle.narrow.specs.Problems.{rules_in};
+ghost use Rattle.propagation.specs.Dues.{is_due};
+ghost use Rattle.propagation.specs.Problems.{rules_in};
 ghost use Rattle.search.specs.Search.{Over};
 
-use narrow::due::Due;
-use narrow::problem::Problem;
+use propagation::due::Due;
+use propagation::problem::Problem;
 
 // The rules whose stretch has the lot are due, and no others.
 pub fn due_over(problem: &Problem, lot: usize) -> Due

@@ -2,7 +2,7 @@
 ghost use Rattle.std.specs.Prelude.{◌≡◌};
 ghost use Rattle.sheet.specs.declared.fault.SheetFault.TheVariants.{NoPlan};
 
-use narrow::fault::Inconsistent;
+use propagation::fault::Inconsistent;
 use sheet::fault::SheetFault;
 
 // The problem has no plan.

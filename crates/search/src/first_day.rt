@@ -4,14 +4,14 @@ ghost use Rattle.store.specs.Windows.{window_at};
 ghost use Rattle.rules.specs.Firm.{Firm};
 ghost use Rattle.rules.specs.Plans.{NoPlan};
 ghost use Rattle.sheet.specs.Books.{lots_of};
-ghost use Rattle.narrow.specs.Problems.{windows_of, rules_in};
+ghost use Rattle.propagation.specs.Problems.{windows_of, rules_in};
 ghost use Rattle.search.specs.Search.{Raised, fixed, from_day};
 
 use crate::due::due_over;
 use crate::fault::Infeasible;
 use crate::next_day::next_day;
-use narrow::fixpoint::narrow;
-use narrow::problem::Problem;
+use propagation::fixpoint::narrow;
+use propagation::problem::Problem;
 use store::window::Window;
 
 // Fixes a lot at its first day.

@@ -5,14 +5,14 @@ ghost use Rattle.rules.specs.Cuts.{Cut, within};
 ghost use Rattle.rules.specs.Firm.{Firm};
 ghost use Rattle.rules.specs.Plans.{Earliest, NoPlan};
 ghost use Rattle.sheet.specs.Books.{rules_of};
-ghost use Rattle.narrow.specs.Problems.{windows_of, rules_in};
+ghost use Rattle.propagation.specs.Problems.{windows_of, rules_in};
 
 use crate::fault::Infeasible;
 use crate::hunt::pick;
 use crate::lows::write_lows;
 use crate::patience::Patience;
-use narrow::fixpoint::narrow_all;
-use narrow::problem::Problem;
+use propagation::fixpoint::narrow_all;
+use propagation::problem::Problem;
 use nvalue::stretch::Stretch;
 use sheet::book::Book;
 

@@ -4,8 +4,8 @@ ghost use Rattle.std.specs.Prelude.{◌≡◌, ℕ, ◌<◌, false, length, Matc
 ghost use Rattle.rules.specs.Firm.{Firm, FirmRule};
 ghost use Rattle.rules.specs.Plans.{Earliest, NoPlan, lows};
 ghost use Rattle.sheet.specs.Books.{rule_at};
-ghost use Rattle.narrow.specs.Dues.{is_due};
-ghost use Rattle.narrow.specs.Problems.{windows_of, rules_in};
+ghost use Rattle.propagation.specs.Dues.{is_due};
+ghost use Rattle.propagation.specs.Problems.{windows_of, rules_in};
 ghost use Rattle.search.specs.Search.{FirstOpen, fixed};
 ghost use Rattle.search.specs.Hunts.{Hunts};
 
@@ -15,9 +15,9 @@ use crate::first_day::{fix, go_on};
 use crate::lows::{first_open, lows_keep};
 use crate::patience::Patience;
 use crate::refute::refute;
-use narrow::due::Due;
-use narrow::fixpoint::narrow;
-use narrow::problem::Problem;
+use propagation::due::Due;
+use propagation::fixpoint::narrow;
+use propagation::problem::Problem;
 
 // Finds the earliest plan inside the windows: then it is the first day of each window that is left. Of the rules those that are not due are firm already.
 #[cycle(hunt_pick_try_days_try_low)]

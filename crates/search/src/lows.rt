@@ -3,10 +3,10 @@ ghost use Rattle.std.specs.Prelude.{◌≡◌, ◌+◌, ◌≤◌, length, Decid
 ghost use Rattle.std.specs.List.{AllByRecursion};
 ghost use Rattle.rules.specs.Plans.{Keeps, lows};
 ghost use Rattle.sheet.specs.Books.{rules_of, lots_of};
-ghost use Rattle.narrow.specs.Problems.{windows_of, rules_in};
+ghost use Rattle.propagation.specs.Problems.{windows_of, rules_in};
 ghost use Rattle.search.specs.Search.{FirstOpen, Single};
 
-use narrow::problem::Problem;
+use propagation::problem::Problem;
 use nvalue::count::different_days;
 use rules::row::Row;
 use sheet::book::Book;

@@ -1,9 +1,9 @@
 // The next day to try for a lot whose first day has failed.
 ghost use Rattle.std.specs.Prelude.{◌<◌, length};
-ghost use Rattle.narrow.specs.Problems.{windows_of};
+ghost use Rattle.propagation.specs.Problems.{windows_of};
 ghost use Rattle.search.specs.Search.{NextDay};
 
-use narrow::problem::Problem;
+use propagation::problem::Problem;
 
 // The first day at which some window begins, or after which some window ends. The days before it are all alike: in a plan they can stand for one another.
 pub fn next_day(problem: &Problem, lot: usize) -> u32

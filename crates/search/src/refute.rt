@@ -3,7 +3,7 @@
 ghost use Rattle.std.specs.Prelude.{◌-◌, ◌<◌, ◌≤◌, length, IfErr};
 ghost use Rattle.rules.specs.Firm.{Firm};
 ghost use Rattle.rules.specs.Plans.{NoPlan};
-ghost use Rattle.narrow.specs.Problems.{windows_of, rules_in};
+ghost use Rattle.propagation.specs.Problems.{windows_of, rules_in};
 ghost use Rattle.search.specs.Search.{Open, fixed};
 
 use crate::due::due_over;
@@ -12,8 +12,8 @@ use crate::first_day::{fix, go_on};
 use crate::lows::lows_keep;
 use crate::tightest::tightest;
 use crate::tries::Tries;
-use narrow::fixpoint::narrow;
-use narrow::problem::Problem;
+use propagation::fixpoint::narrow;
+use propagation::problem::Problem;
 
 // Has the problem no plan? With so many tries at most; it may have one where nothing is refused: then there is one, or the tries were used up.
 pub(crate) fn refute(problem: &Problem, tries: u32) -> Result<(), Infeasible>

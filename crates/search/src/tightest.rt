@@ -2,11 +2,11 @@
 ghost use Rattle.std.specs.Prelude.{◌<◌, length, MatchOption};
 ghost use Rattle.std.specs.List.{AllByRecursion};
 ghost use Rattle.store.specs.Windows.{window_at};
-ghost use Rattle.narrow.specs.Problems.{windows_of};
+ghost use Rattle.propagation.specs.Problems.{windows_of};
 ghost use Rattle.search.specs.Search.{Open, Single};
 
 use crate::lows::first_open;
-use narrow::problem::Problem;
+use propagation::problem::Problem;
 use sheet::book::Book;
 use store::window::Window;
 

@@ -1,6 +1,6 @@
 // The asks: not before, not after, at least, at most.
 use crate::house::row;
-use bottom::words::WordStore;
+use base_stores::words::WordStore;
 use nvalue::count_window::CountWindow;
 use nvalue::stretch::Stretch;
 use rules::row::Row;

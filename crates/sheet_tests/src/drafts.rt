@@ -1,6 +1,6 @@
 // Start, add rule and close.
 use crate::house::row;
-use bottom::words::WordStore;
+use base_stores::words::WordStore;
 use nvalue::stretch::Stretch;
 use rules::row::Row;
 use sheet::book::Book;

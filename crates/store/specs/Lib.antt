@@ -1,3 +1,5 @@
+pub mod Checks
+pub mod Each
 pub mod Pairs
 pub mod Seasons
 pub mod Sound

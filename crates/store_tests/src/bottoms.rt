@@ -1,6 +1,6 @@
 // The word store and the mask store.
-use bottom::masks::MaskStore;
-use bottom::words::WordStore;
+use base_stores::masks::MaskStore;
+use base_stores::words::WordStore;
 use store::fault::StoreFault;
 use store::store::WindowStore;
 

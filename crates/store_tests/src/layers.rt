@@ -1,6 +1,6 @@
 // Dispatch and period layers, alone and piled up, on both bottom stores.
-use bottom::masks::MaskStore;
-use bottom::words::WordStore;
+use base_stores::masks::MaskStore;
+use base_stores::words::WordStore;
 use calendar::dispatch::Dispatch;
 use calendar::period::{Period, PeriodFault, PeriodLength};
 use std::test::Fail;

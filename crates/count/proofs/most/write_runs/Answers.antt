@@ -2,7 +2,7 @@ use Rattle.std.proofs.Common.{◌≡◌, ◌+◌, ◌<◌, length, take, sym, re
 use Rattle.std.proofs.lemmas.List.{take_all}
 use Rattle.store.specs.Pairs.{paired}
 use Rattle.store.proofs.Pairs.{paired_length}
-use Rattle.page.proofs.Surveys.{copy_more}
+use Rattle.guard.proofs.Surveys.{copy_more}
 use Rattle.count.proofs.most.write_runs.Goals as goal
 
 pub loop-i-preserved : goal.loop-i-preserved

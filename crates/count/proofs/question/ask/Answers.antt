@@ -1,6 +1,6 @@
 use Rattle.std.proofs.Common.{length, arith, rules}
 use Rattle.std.proofs.lemmas.List.{places}
-use Rattle.page.proofs.Surveys.{page_cleared}
+use Rattle.guard.proofs.Surveys.{page_cleared}
 use Rattle.count.proofs.question.ask.Goals as goal
 
 pub returns : goal.returns

@@ -1,6 +1,6 @@
 use Rattle.std.proofs.Common.{length, refl, arith, rules}
 use Rattle.std.proofs.lemmas.List.{places}
-use Rattle.page.proofs.Surveys.{page_cleared}
+use Rattle.guard.proofs.Surveys.{page_cleared}
 use Rattle.plan.specs.Ready.{short_work}
 use Rattle.plan.proofs.Exactly.{settles_exactly}
 use Rattle.plan.specs.Settles.{refused}

@@ -1,7 +1,7 @@
 use Rattle.std.proofs.Common.{◌≡◌, ℕ, ◌<◌, false}
 use Rattle.sheet.specs.Books.{rule_at}
-use Rattle.narrow.specs.Dues.{is_due}
-use Rattle.narrow.specs.Problems.{rules_in}
+use Rattle.propagation.specs.Dues.{is_due}
+use Rattle.propagation.specs.Problems.{rules_in}
 use Rattle.search.specs.Search.{Over}
 use Rattle.search.proofs.due.due_over.Given as goal
 

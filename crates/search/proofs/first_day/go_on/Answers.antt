@@ -2,7 +2,7 @@ use Rattle.std.proofs.Common.{◌≤◌, ap, arith}
 use Rattle.std.proofs.lemmas.Result.{err_from_is_err_and}
 use Rattle.store.specs.Windows.{window_at}
 use Rattle.sheet.specs.Books.{rules_of}
-use Rattle.narrow.specs.Problems.{rules_in, windows_of}
+use Rattle.propagation.specs.Problems.{rules_in, windows_of}
 use Rattle.search.proofs.Booked.{firm_others}
 use Rattle.search.proofs.Left.{past_last, raised, raised_none}
 use Rattle.search.proofs.Swaps.{skipped}

@@ -1,7 +1,7 @@
 use Rattle.std.proofs.Common.{◌≤◌, length, drop}
 use Rattle.rules.specs.Cuts.{Cut, within}
 use Rattle.rules.specs.Plans.{Earliest}
-use Rattle.narrow.specs.Problems.{rules_in, windows_of}
+use Rattle.propagation.specs.Problems.{rules_in, windows_of}
 use Rattle.search.proofs.groups.plan_groups.Given as goal
 
 abbrev pub invariant-loop-end : goal.invariant-loop-end

@@ -7,7 +7,7 @@ use Rattle.nvalue.proofs.Choices.{choice_length}
 use Rattle.rules.specs.Cuts.{within}
 use Rattle.rules.specs.Firm.{Firm}
 use Rattle.sheet.specs.Books.{rules_of}
-use Rattle.narrow.specs.Problems.{rules_in, windows_of}
+use Rattle.propagation.specs.Problems.{rules_in, windows_of}
 use Rattle.search.proofs.Parted.{firm_part}
 use Rattle.search.proofs.groups.plan_part.Goals as goal
 

@@ -5,7 +5,7 @@ use Rattle.std.proofs.lemmas.Bool.Decides.{not_from_Decides}
 use Rattle.rules.proofs.Lows.{earliest_lows}
 use Rattle.rules.proofs.Points.{settled_plan, no_firm_no_plan_lem}
 use Rattle.sheet.specs.Books.{rules_of}
-use Rattle.narrow.specs.Problems.{rules_in, windows_of}
+use Rattle.propagation.specs.Problems.{rules_in, windows_of}
 use Rattle.search.specs.Search.{Raised, Single, width}
 use Rattle.search.proofs.Booked.{firm_others}
 use Rattle.search.proofs.Left.{same_answer, single_none}

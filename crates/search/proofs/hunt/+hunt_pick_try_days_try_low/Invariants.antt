@@ -1,5 +1,5 @@
 use Rattle.std.proofs.Common.{◌+◌, ◌*◌}
-use Rattle.narrow.specs.Problems.{rules_in, windows_of}
+use Rattle.propagation.specs.Problems.{rules_in, windows_of}
 use Rattle.search.specs.Search.{fixed, width}
 use Rattle.search.proofs.Trying.{Trying}
 use Rattle.search.proofs.hunt.+hunt_pick_try_days_try_low.Given as goal

@@ -1,5 +1,5 @@
 use Rattle.std.proofs.Common.{◌+◌, ◌*◌, ◌≤◌}
-use Rattle.narrow.specs.Problems.{rules_in, windows_of}
+use Rattle.propagation.specs.Problems.{rules_in, windows_of}
 use Rattle.search.proofs.Trying.{Trying}
 use Rattle.search.proofs.refute.+probe_days_low.Given as goal
 

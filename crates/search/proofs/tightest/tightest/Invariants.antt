@@ -1,4 +1,4 @@
-use Rattle.narrow.specs.Problems.{windows_of}
+use Rattle.propagation.specs.Problems.{windows_of}
 use Rattle.search.specs.Search.{Open}
 use Rattle.search.proofs.tightest.tightest.Given as goal
 

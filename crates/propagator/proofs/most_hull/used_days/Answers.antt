@@ -1,0 +1,19 @@
+-- A loose lot can get any day of its window.
+use Rattle.std.proofs.Common.{arith}
+use Rattle.std.proofs.ByRecursion.{All-get_or}
+use Rattle.store.specs.Sound.{Sound}
+use Rattle.store.specs.Windows.{window, window_at}
+use Rattle.nvalue.proofs.Choices.{choice_get_or}
+use Rattle.propagator.proofs.most_hull.used_days.Goals as goal
+
+pub returns-then-seats-lot : goal.returns-then-seats-lot
+returns-then-seats-lot c =
+    let ws = c.args.seats.season.windows.now in
+    let w = window_at ws c.args.lot in
+    let sound = All-get_or Sound ws c.args.lot (window 0 0) c.requires.there c.args.seats.season.sound in
+    let any = c.requires.seats.spared.any c.args.lot c.requires.there c.if-seats-lot.true in
+    record {
+      low = any w.low (omega arith, sound.0);
+      high = any w.high (sound.0, omega arith);
+      kept = λ ds b. choice_get_or ws ds b.choice c.args.lot c.requires.there;
+    }
