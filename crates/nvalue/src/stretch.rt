@@ -1,7 +1,7 @@
 // A stretch: `length` lots in a row, from the lot `first` on.
 ghost use Rattle.std.specs.Prelude.{◌+◌, ◌<◌, ◌≤◌, Decides};
 
-#[derive(Clone, Copy, PartialEq, Eq, Debug)]
+#[derive(Clone, Copy, PartialEq, Eq, Debug, Default)]
 pub struct Stretch {
     pub first: usize,
     pub length: usize,

@@ -2,11 +2,14 @@
 use Rattle.std.proofs.Common.{◌≡◌, ℕ, zero, suc, List, [], ◌∷◌, take, drop, refl, ap, ◌∙◌, arith}
 use Rattle.std.specs.List.{AllZip, AllByRecursion}
 use Rattle.store.specs.declared.window.Window.{Window}
+use Rattle.store.specs.Windows.{Narrowed}
+use Rattle.store.proofs.Narrowing.{narrowed_same, narrowed_trans}
 use Rattle.nvalue.specs.Choices.{Choice, part}
 use Rattle.nvalue.specs.Nvalue.{nvalue}
 use Rattle.rules.specs.declared.row.Row.{Row}
+use Rattle.rules.specs.Sheets.{Sheet}
 use Rattle.rules.specs.Plans.{Keeps, Plan}
-use Rattle.rules.specs.Firm.{Narrower, Stricter, Inside}
+use Rattle.rules.specs.Firm.{Stricter, Inside}
 
 module _ {X : Type 0} (R : X → X → Type 0) where
   -- where R ties each element to itself, a list is tied to itself
@@ -44,28 +47,25 @@ module _ {X : Type 0} (R : X → X → Type 0) where
 
 -- a rule is as strict as itself
 pub stricter_refl : (r : Row) → Stricter r r
-stricter_refl r = record { first = refl; length = refl; floor = omega arith; ceiling = omega arith }
+stricter_refl r = record { stretch = refl; floor = omega arith; ceiling = omega arith }
 
 -- a rule stricter than a stricter one is stricter
 pub stricter_trans : (p q r : Row) → Stricter p q → Stricter q r → Stricter p r
-stricter_trans p q r s t = record { first = s.first ∙ t.first; length = s.length ∙ t.length; floor = omega arith; ceiling = omega arith }
+stricter_trans p q r s t = record { stretch = s.stretch ∙ t.stretch; floor = omega arith; ceiling = omega arith }
 
--- all lie inside themselves
-pub inside_refl : (ws : List Window) (rules : List Row) → Inside ws rules ws rules
-inside_refl ws rules = record {
-  windows = each_refl Narrower (λ w. (omega arith, omega arith)) ws;
-  counts = each_refl Stricter stricter_refl rules;
-}
+-- a sheet lies inside itself
+pub inside_refl : (s : Sheet) → Inside s s
+inside_refl s = record { windows = narrowed_same s.windows; counts = each_refl Stricter stricter_refl s.rules }
 
--- what lies inside what lies inside others lies inside these
-pub inside_trans : (us vs ws : List Window) (ps qs rs : List Row) → Inside us ps vs qs → Inside vs qs ws rs → Inside us ps ws rs
-inside_trans us vs ws ps qs rs i j = record {
-  windows = each_trans Narrower (λ u v w p q. (omega arith, omega arith)) us vs ws i.windows j.windows;
-  counts = each_trans Stricter stricter_trans ps qs rs i.counts j.counts;
+-- what lies inside what lies inside a sheet lies inside it
+pub inside_trans : (s t u : Sheet) → Inside s t → Inside t u → Inside s u
+inside_trans s t u i j = record {
+  windows = narrowed_trans s.windows t.windows u.windows i.windows j.windows;
+  counts = each_trans Stricter stricter_trans s.rules t.rules u.rules i.counts j.counts;
 }
 
 -- a choice for narrower windows is one for the wider
-pub choice_narrower : (vs ws : List Window) (ds : List ℕ) → AllZip Narrower vs ws → Choice vs ds → Choice ws ds
+pub choice_narrower : (vs ws : List Window) (ds : List ℕ) → Narrowed vs ws → Choice vs ds → Choice ws ds
 choice_narrower [] [] ds e c = c
 choice_narrower [] (w ∷ ws) ds e c = absurd e
 choice_narrower (v ∷ vs) [] ds e c = absurd e
@@ -75,7 +75,7 @@ choice_narrower (v ∷ vs) (w ∷ ws) (d ∷ ds) (n, e) (b, c) = ((omega arith, 
 -- days that keep a rule keep every one that it is stricter than
 pub keeps_stricter : (q r : Row) (ds : List ℕ) → Stricter q r → Keeps ds q → Keeps ds r
 keeps_stricter q r ds s k =
-    let same : part ds q.first q.length ≡ part ds r.first r.length = cc in
+    let same : part ds q.stretch.first q.stretch.length ≡ part ds r.stretch.first r.stretch.length = ap (λ t. part ds t.first t.length) s.stretch in
     let n = ap nvalue same in
     (omega arith, omega arith)
 
@@ -86,9 +86,9 @@ keeps_each [] (r ∷ rules) ds e k = absurd e
 keeps_each (q ∷ qs) [] ds e k = absurd e
 keeps_each (q ∷ qs) (r ∷ rules) ds (s, e) (k, ks) = (keeps_stricter q r ds s k, keeps_each qs rules ds e ks)
 
--- a plan of what lies inside is a plan
-pub plan_inside : (vs ws : List Window) (qs rules : List Row) (ds : List ℕ) → Inside vs qs ws rules → Plan vs qs ds → Plan ws rules ds
-plan_inside vs ws qs rules ds i p = record {
-  choice = choice_narrower vs ws ds i.windows p.choice;
-  keeps = keeps_each qs rules ds i.counts p.keeps;
+-- a plan of a sheet inside another is one of the other
+pub plan_inside : (s t : Sheet) (ds : List ℕ) → Inside s t → Plan s ds → Plan t ds
+plan_inside s t ds i p = record {
+  choice = choice_narrower s.windows t.windows ds i.windows p.choice;
+  keeps = keeps_each s.rules t.rules ds i.counts p.keeps;
 }

@@ -1,6 +1,6 @@
--- The laws of plans and of firm windows.
-pub mod Cuts
+-- The laws of plans and of firm sheets.
 pub mod Inside
 pub mod Lows
 pub mod Order
+pub mod Parts
 pub mod Points

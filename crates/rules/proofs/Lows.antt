@@ -3,7 +3,7 @@ use Rattle.std.proofs.Common.{ℕ, ◌≤◌, List, [], ◌∷◌, arith}
 use Rattle.std.specs.List.{AllZip, AllByRecursion}
 use Rattle.store.specs.declared.window.Window.{Window}
 use Rattle.nvalue.specs.Choices.{Choice}
-use Rattle.rules.specs.declared.row.Row.{Row}
+use Rattle.rules.specs.Sheets.{Sheet}
 use Rattle.rules.specs.Plans.{Keeps, Earliest, lows}
 use Rattle.rules.proofs.Order.{earlier_or_same}
 
@@ -20,8 +20,8 @@ lows_least (w ∷ ws) [] c = absurd c
 lows_least (w ∷ ws) (d ∷ ds) (b, c) = (b.0, lows_least ws ds c)
 
 -- so they are the earliest plan where they keep every rule
-pub earliest_lows : (ws : List Window) (rules : List Row) → AllByRecursion (λ w. w.low ≤ w.high) ws → AllByRecursion (Keeps (lows ws)) rules → Earliest ws rules (lows ws)
-earliest_lows ws rules a k = record {
-  plan = record { choice = choice_lows ws a; keeps = k };
-  first = λ es p. earlier_or_same (lows ws) es (lows_least ws es p.choice);
+pub earliest_lows : (s : Sheet) → AllByRecursion (λ w. w.low ≤ w.high) s.windows → AllByRecursion (Keeps (lows s.windows)) s.rules → Earliest s (lows s.windows)
+earliest_lows s a k = record {
+  plan = record { choice = choice_lows s.windows a; keeps = k };
+  first = λ es p. earlier_or_same (lows s.windows) es (lows_least s.windows es p.choice);
 }

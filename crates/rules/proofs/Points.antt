@@ -3,12 +3,13 @@ use Rattle.std.proofs.Common.{◌≡◌, ℕ, zero, suc, ◌≤◌, List, [], �
 use Rattle.std.specs.List.{AllZip, AllByRecursion}
 use Rattle.std.proofs.lemmas.List.{take-map, drop-map}
 use Rattle.store.specs.declared.window.Window.{Window}
-use Rattle.store.specs.Windows.{window, window_at}
+use Rattle.store.specs.Windows.{window, window_at, Narrowed}
 use Rattle.nvalue.specs.Choices.{Choice, part}
 use Rattle.nvalue.specs.Nvalue.{nvalue}
 use Rattle.rules.specs.declared.row.Row.{Row}
-use Rattle.rules.specs.Plans.{stretch, Keeps, Plan, NoPlan}
-use Rattle.rules.specs.Firm.{FirmRule, Firm, Narrower, Stricter, Inside, NoFirm, GreatestFirm}
+use Rattle.rules.specs.Sheets.{Sheet, sheet, under}
+use Rattle.rules.specs.Plans.{Keeps, Plan, NoPlan, SamePlans}
+use Rattle.rules.specs.Firm.{FirmRule, Firm, Stricter, Inside, NoFirm, GreatestFirm}
 use Rattle.rules.proofs.Inside.{plan_inside}
 use Rattle.nvalue.proofs.Stretches.{choice_part}
 
@@ -18,7 +19,7 @@ points ds = map (λ d. window d d) ds
 
 -- a rule with the count that the days have over its stretch
 abbrev pub pinned : List ℕ → Row → Row
-pinned ds r = record { first = r.first; length = r.length; floor = nvalue (stretch r ds); ceiling = nvalue (stretch r ds) }
+pinned ds r = record { stretch = r.stretch; floor = nvalue (under r ds); ceiling = nvalue (under r ds) }
 
 -- days are a choice for their own windows
 pub points_choice : (ds : List ℕ) → Choice (points ds) ds
@@ -40,13 +41,13 @@ points_part ds a n i =
 -- every rule with its count is firm there
 pub points_rule : (ds : List ℕ) (r : Row) → FirmRule (points ds) (pinned ds r)
 points_rule ds r =
-    let c = choice_part (points ds) ds r.first r.length (points_choice ds) in
-    let e = points_part ds r.first r.length in
+    let c = choice_part (points ds) ds r.stretch.first r.stretch.length (points_choice ds) in
+    let e = points_part ds r.stretch.first r.stretch.length in
     record {
-      low = λ i b. (stretch r ds, c, (omega arith, omega arith), sym (ap (λ w. w.low) (e i)));
-      high = λ i b. (stretch r ds, c, (omega arith, omega arith), sym (ap (λ w. w.high) (e i)));
-      floor = (stretch r ds, c, refl);
-      ceiling = (stretch r ds, c, refl);
+      low = λ i b. (under r ds, c, (omega arith, omega arith), sym (ap (λ w. w.low) (e i)));
+      high = λ i b. (under r ds, c, (omega arith, omega arith), sym (ap (λ w. w.high) (e i)));
+      floor = (under r ds, c, refl);
+      ceiling = (under r ds, c, refl);
     }
 
 points_rules : (ds : List ℕ) (rules : List Row) → AllByRecursion (FirmRule (points ds)) (map (pinned ds) rules)
@@ -61,11 +62,15 @@ points_days : (ds : List ℕ) → AllByRecursion (λ w. w.low ≤ w.high) (point
 points_days [] = tt
 points_days (d ∷ ds) = (omega arith, points_days ds)
 
--- single days with their counts are firm
-pub points_firm : (ds : List ℕ) (rules : List Row) → Firm (points ds) (map (pinned ds) rules)
+-- the sheet of single days, with their counts over the stretches of some rules
+abbrev pub points_sheet : List ℕ → List Row → Sheet
+points_sheet ds rules = sheet (points ds) (map (pinned ds) rules)
+
+-- it is firm
+pub points_firm : (ds : List ℕ) (rules : List Row) → Firm (points_sheet ds rules)
 points_firm ds rules = record { days = points_days ds; counts = points_counts ds rules; each = points_rules ds rules }
 
-points_narrower : (ws : List Window) (ds : List ℕ) → Choice ws ds → AllZip Narrower (points ds) ws
+points_narrower : (ws : List Window) (ds : List ℕ) → Choice ws ds → Narrowed (points ds) ws
 points_narrower [] [] c = tt
 points_narrower [] (d ∷ ds) c = absurd c
 points_narrower (w ∷ ws) [] c = absurd c
@@ -73,32 +78,27 @@ points_narrower (w ∷ ws) (d ∷ ds) (b, c) = (b, points_narrower ws ds c)
 
 points_stricter : (ds : List ℕ) (rules : List Row) → AllByRecursion (Keeps ds) rules → AllZip Stricter (map (pinned ds) rules) rules
 points_stricter ds [] k = tt
-points_stricter ds (r ∷ rules) (k, ks) = (record { first = refl; length = refl; floor = k.0; ceiling = k.1 }, points_stricter ds rules ks)
+points_stricter ds (r ∷ rules) (k, ks) = (record { stretch = refl; floor = k.0; ceiling = k.1 }, points_stricter ds rules ks)
 
 points_keeps : (ds : List ℕ) (rules : List Row) → AllByRecursion (Keeps ds) (map (pinned ds) rules)
 points_keeps ds [] = tt
 points_keeps ds (r ∷ rules) = ((omega arith, omega arith), points_keeps ds rules)
 
--- the days of a plan, with their counts, are firm and lie inside
-pub plan_points : (ws : List Window) (rules : List Row) (ds : List ℕ) → Plan ws rules ds
-    → Firm (points ds) (map (pinned ds) rules) × Inside (points ds) (map (pinned ds) rules) ws rules
-plan_points ws rules ds p = (points_firm ds rules, record { windows = points_narrower ws ds p.choice; counts = points_stricter ds rules p.keeps })
+-- and where the days are a plan it lies inside
+pub plan_points : (s : Sheet) (ds : List ℕ) → Plan s ds → Inside (points_sheet ds s.rules) s
+plan_points s ds p = record { windows = points_narrower s.windows ds p.choice; counts = points_stricter ds s.rules p.keeps }
 
--- days that lie inside with their counts over the same stretches are a plan
-pub points_plan : (ws : List Window) (qs rules : List Row) (ds : List ℕ) → Inside (points ds) (map (pinned ds) qs) ws rules → Plan ws rules ds
-points_plan ws qs rules ds i =
-    plan_inside (points ds) ws (map (pinned ds) qs) rules ds i (record { choice = points_choice ds; keeps = points_keeps ds qs })
+-- days whose sheet lies inside are a plan
+pub points_plan : (s : Sheet) (qs : List Row) (ds : List ℕ) → Inside (points_sheet ds qs) s → Plan s ds
+points_plan s qs ds i = plan_inside (points_sheet ds qs) s ds i (record { choice = points_choice ds; keeps = points_keeps ds qs })
 
--- the greatest firm windows have just the plans that were there
-pub settled_plan : (ws : List Window) (rules : List Row) (is : List Window) (counts : List Row) → GreatestFirm ws rules is counts
-    → (ds : List ℕ) → (Plan ws rules ds → Plan is counts ds) × (Plan is counts ds → Plan ws rules ds)
-settled_plan ws rules is counts g ds = (
-  λ p. let h = plan_points ws rules ds p in points_plan is rules counts ds (g.greatest (points ds) (map (pinned ds) rules) h.0 h.1),
-  λ p. plan_inside is ws counts rules ds g.inside p,
+-- the greatest firm sheet has just the plans that were there
+pub settled_plans : (s is : Sheet) → GreatestFirm s is → SamePlans s is
+settled_plans s is g ds = (
+  λ p. points_plan is s.rules ds (g.greatest (points_sheet ds s.rules) (points_firm ds s.rules) (plan_points s ds p)),
+  λ p. plan_inside is s ds g.inside p,
 )
 
--- where no windows are firm there is no plan
-pub no_firm_no_plan_lem : (ws : List Window) (rules : List Row) → NoFirm ws rules → NoPlan ws rules
-no_firm_no_plan_lem ws rules none ds p =
-    let h = plan_points ws rules ds p in
-    none (points ds) (map (pinned ds) rules) h.0 h.1
+-- where no sheet inside is firm there is no plan
+pub no_firm_no_plan_lem : (s : Sheet) → NoFirm s → NoPlan s
+no_firm_no_plan_lem s none ds p = none (points_sheet ds s.rules) (points_firm ds s.rules) (plan_points s ds p)

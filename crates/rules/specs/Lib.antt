@@ -1,4 +1,5 @@
-pub mod Cuts
 pub mod Firm
 pub mod Laws
+pub mod Parts
 pub mod Plans
+pub mod Sheets

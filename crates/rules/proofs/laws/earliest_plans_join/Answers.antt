@@ -1,5 +1,5 @@
 -- The earliest plans of both sides of a cut join.
-use Rattle.rules.proofs.Cuts.{earliest_join}
+use Rattle.rules.proofs.Parts.{earliest_join}
 use Rattle.rules.proofs.laws.earliest_plans_join.Goals as goal
 
 pub returns : goal.returns
