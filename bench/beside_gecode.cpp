@@ -1,8 +1,10 @@
 /*
- * The proved planner beside Gecode, in one run: families of sheets from seeds, each planned by both, with medians and their ratio. Nothing here is part of the gate.
+ * The proved planner beside Gecode, in one run: families of sheets from seeds, each planned by both, with medians and
+ * their ratio. Nothing here is part of the gate.
  *
- * Gecode gets an nvalues constraint for each end of a rule's count window, branches on the lots in their order and on the smallest day first, with one thread: so its first solution is the earliest plan.
- * Both must give the same plan, or both none; a sheet on which Gecode does not come to an end within a second counts as that second, and is told.
+ * Gecode gets an nvalues constraint for each end of a rule's count window, branches on the lots in their order and on
+ * the smallest day first, with one thread: so its first solution is the earliest plan. Both must give the same plan, or
+ * both none; a sheet on which Gecode does not come to an end within a second counts as that second, and is told.
  */
 #include <gecode/int.hh>
 #include <gecode/search.hh>
@@ -16,7 +18,8 @@
 #include <string>
 #include <vector>
 
-extern "C" uint32_t bench_plan(uint32_t *words, size_t words_length, const uint32_t *rules, size_t rules_length, uint32_t *answer, size_t answer_length, uint32_t *work, size_t work_length);
+extern "C" uint32_t bench_plan(uint32_t *words, size_t words_length, const uint32_t *rules, size_t rules_length,
+                               uint32_t *answer, size_t answer_length, uint32_t *work, size_t work_length);
 
 namespace {
 
@@ -123,7 +126,8 @@ uint32_t planned(const Sheet &sheet, Plan &plan, double &ms)
         for (const Rule &r : sheet.rules)
             rules.insert(rules.end(), {r.first, r.length, r.floor, r.ceiling});
         double start = now_ms();
-        said = bench_plan(words.data(), words.size(), rules.data(), rules.size(), plan.data(), plan.size(), work, 4096);
+        said = bench_plan(words.data(), words.size(), rules.data(), rules.size(), plan.data(), plan.size(), work,
+                          4096);
         times.push_back(now_ms() - start);
         if (times.back() > LIMIT_MS)
             break;
@@ -208,7 +212,8 @@ void family(const std::string &name, uint64_t seed, const std::function<Sheet(Dr
         late += found == Found::late;
         slowest = std::max(slowest, my_ms);
     }
-    std::printf("| %-58s | %2d of %d | %9.4f | %9.4f | %6.2f | %9.3f | %2d |\n", name.c_str(), plans, SHEETS, median(ours), median(theirs), median(ours) / median(theirs), slowest, late);
+    std::printf("| %-58s | %2d of %d | %9.4f | %9.4f | %6.2f | %9.3f | %2d |\n", name.c_str(), plans, SHEETS,
+                median(ours), median(theirs), median(ours) / median(theirs), slowest, late);
     std::fflush(stdout);
 }
 
@@ -248,7 +253,7 @@ Sheet mixed(Draw &draw, uint32_t lots, uint32_t slack)
     return sheet;
 }
 
-/* The same shape with a plan: days are drawn first, and every rule holds for them, one in two with no room to spare. */
+/* The same shape with a plan: days are drawn first, and every rule holds for them, one in two with no room left. */
 Sheet mixed_with_a_plan(Draw &draw, uint32_t lots)
 {
     Sheet sheet = scatter(draw, lots, 6, 8);
@@ -259,7 +264,8 @@ Sheet mixed_with_a_plan(Draw &draw, uint32_t lots)
         for (uint32_t i = 0; i < 3; i++) {
             std::vector<uint32_t> stretch(days.begin() + first + 2 * i, days.begin() + first + 2 * i + 8);
             std::sort(stretch.begin(), stretch.end());
-            uint32_t count = uint32_t(std::unique(stretch.begin(), stretch.end()) - stretch.begin()), slack = draw.below(2);
+            uint32_t count = uint32_t(std::unique(stretch.begin(), stretch.end()) - stretch.begin());
+            uint32_t slack = draw.below(2);
             if (i == 1)
                 sheet.rules.push_back({first + 2 * i, 8, count - std::min(count - 1, slack), 256});
             else
@@ -268,7 +274,7 @@ Sheet mixed_with_a_plan(Draw &draw, uint32_t lots)
     return sheet;
 }
 
-/* Every rule is firm, and yet three lots on two days want three different ones of each pair but the first and the last. */
+/* Every rule is firm, and yet three lots on two days want three different ones of each pair but the first and last. */
 Sheet after_search(Draw &draw, uint32_t width)
 {
     Sheet sheet = scatter(draw, 256, 30, 300);
@@ -283,7 +289,8 @@ Sheet after_search(Draw &draw, uint32_t width)
     return sheet;
 }
 
-/* Stretches of many lengths that overlap, each with a ceiling at the fewest or up to two above, or a floor at the most or up to two below: most have no plan, and many show it only after search. */
+/* Stretches of many lengths that overlap, each with a ceiling at the fewest or up to two above, or a floor at the most
+   or up to two below: most have no plan, and many show it only after search. */
 Sheet near_limits(Draw &draw)
 {
     uint32_t lots = 20 + draw.below(60), width = 3 + draw.below(12), season = 6 + draw.below(40);
@@ -304,9 +311,11 @@ Sheet near_limits(Draw &draw)
 
 int main()
 {
-    std::printf("| family | planned | planner, ms | Gecode, ms | ratio | slowest, ms | late |\n|---|---|---|---|---|---|---|\n");
+    std::printf("| family | planned | planner, ms | Gecode, ms | ratio | slowest, ms | late |\n");
+    std::printf("|---|---|---|---|---|---|---|\n");
     family("32 groups of 8, ceilings at the fewest", 1, [](Draw &d) { return groups_with_ceilings(d, 30, 300, 0); });
-    family("32 groups of 8, ceilings one above the fewest", 2, [](Draw &d) { return groups_with_ceilings(d, 30, 300, 1); });
+    family("32 groups of 8, ceilings one above the fewest", 2,
+           [](Draw &d) { return groups_with_ceilings(d, 30, 300, 1); });
     family("32 groups of 8 on few days, floors at the most", 3, [](Draw &d) {
         Sheet sheet = scatter(d, 256, 6, 6);
         groups(sheet, [&](uint32_t first) { return Rule{first, 8, most(sheet, first, 8), 256}; });
@@ -330,7 +339,8 @@ int main()
         sheet.rules.push_back({0, 256, most(sheet, 0, 256), 256});
         return sheet;
     });
-    family("windows of up to 2,000 days, ceilings at the fewest", 12, [](Draw &d) { return groups_with_ceilings(d, 2000, 7000, 0); });
+    family("windows of up to 2,000 days, ceilings at the fewest", 12,
+           [](Draw &d) { return groups_with_ceilings(d, 2000, 7000, 0); });
     family("windows of up to 2,000 days, floors at the most", 13, [](Draw &d) {
         Sheet sheet = scatter(d, 256, 2000, 7000);
         groups(sheet, [&](uint32_t first) { return Rule{first, 8, most(sheet, first, 8), 256}; });

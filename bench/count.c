@@ -1,5 +1,5 @@
-/* Times the proved counting functions: fewest, most, and one rule's tightest windows with a tight ceiling and a tight floor.
- * Nothing here is proved. Windows come from a fixed seed. Times are medians, in microseconds. */
+/* Times the proved counting functions: fewest, most, and one rule's tightest windows with a tight ceiling and a tight
+ * floor. Nothing here is proved. Windows come from a fixed seed. Times are medians, in microseconds. */
 #include <stdint.h>
 #include <stdio.h>
 #include <stdlib.h>
@@ -8,8 +8,10 @@
 
 struct window { uint32_t low, high; };
 
-size_t bench_fewest(uint32_t *words, size_t words_len, size_t lots, uint32_t *answer, size_t answer_len, uint32_t *work, size_t work_len);
-size_t bench_most(uint32_t *words, size_t words_len, size_t lots, uint32_t *answer, size_t answer_len, uint32_t *work, size_t work_len);
+size_t bench_fewest(uint32_t *words, size_t words_len, size_t lots, uint32_t *answer, size_t answer_len,
+                    uint32_t *work, size_t work_len);
+size_t bench_most(uint32_t *words, size_t words_len, size_t lots, uint32_t *answer, size_t answer_len,
+                  uint32_t *work, size_t work_len);
 uint32_t bench_tighten(struct window *windows, size_t windows_len, uint32_t floor, uint32_t ceiling);
 
 enum { LOTS = 256, ROUNDS = 31, LAST_DAY = 9999 };
@@ -90,7 +92,8 @@ static void row(const char *name, const struct window *from, size_t lots)
         ceiling[r] = t3 - t2;
         floor_[r] = t5 - t4;
     }
-    printf("| %-28s | %3zu | %3zu | %3zu | %8.1f | %8.1f | %9.1f | %9.1f |\n", name, lots, least, most, median(few), median(many), median(ceiling), median(floor_));
+    printf("| %-28s | %3zu | %3zu | %3zu | %8.1f | %8.1f | %9.1f | %9.1f |\n", name, lots, least, most,
+           median(few), median(many), median(ceiling), median(floor_));
 }
 
 int main(void)
@@ -98,7 +101,8 @@ int main(void)
     static const size_t sizes[] = {8, 40, 256};
     static const uint32_t widths[] = {2, 200, 9999};
     struct window w[LOTS];
-    printf("| windows                      | lots | fewest | most | fewest us | most us | ceiling us | floor us |\n|---|---|---|---|---|---|---|---|\n");
+    printf("| windows                      | lots | fewest | most | fewest us | most us | ceiling us | floor us |\n");
+    printf("|---|---|---|---|---|---|---|---|\n");
     for (size_t s = 0; s < 3; s++)
         for (size_t d = 0; d < 3; d++) {
             char name[64];

@@ -1,11 +1,13 @@
-/* Times the proved planner on whole sheets: start, rules, close, plan. Nothing here is proved. Sheets come from a fixed seed. Times are medians, in microseconds. */
+/* Times the proved planner on whole sheets: start, rules, close, plan. Nothing here is proved. Sheets come from a fixed
+   seed. Times are medians, in microseconds. */
 #include <stdint.h>
 #include <stdio.h>
 #include <stdlib.h>
 #include <string.h>
 #include <time.h>
 
-uint32_t bench_plan(uint32_t *words, size_t words_len, const uint32_t *rules, size_t rules_len, uint32_t *answer, size_t answer_len, uint32_t *work, size_t work_len);
+uint32_t bench_plan(uint32_t *words, size_t words_len, const uint32_t *rules, size_t rules_len, uint32_t *answer,
+                    size_t answer_len, uint32_t *work, size_t work_len);
 
 enum { LOTS = 256, RULES = 32, ROUNDS = 31, DAYS = 10000 };
 
@@ -63,7 +65,7 @@ static void scatter(struct sheet *s, uint32_t width, uint32_t season)
     }
 }
 
-/* fewest and most different days of lots, by trying (small groups) or by the planner itself: here just by sorting on last days */
+/* fewest and most different days of lots, each time by serving the lots in the order of their last days */
 static uint32_t fewest(const struct sheet *s, size_t first, size_t length)
 {
     uint32_t count = 0;

@@ -1,13 +1,18 @@
 #!/usr/bin/env python3
-"""Plants bugs in a crate, one at a time, and asks the checker: python3 tools/plant.py CRATE [--built N] [--seed N] [--only TEXT] [--jobs N]
+"""Plants bugs in a crate, one at a time, and asks the checker:
 
-Each bug is one small change in src/ of a copy of the tree: a comparison turned, a constant off by one, a sign or an end exchanged, arguments exchanged, a statement dropped, a check left out, the
-answers of two cases exchanged. Contracts, tests and comments are never touched. The bugs go round the functions of the crate, so that no function gets a second one before each has had one, until so
-many stand that build. Where a bug changes a name that a proof file cites, the file gets the new name, and where it takes the name away, the checker has to find a proof of its own: so that no bug is
-refused for a name.
+    python3 tools/plant.py CRATE [--built N] [--seed N] [--only TEXT] [--jobs N]
 
-A row for each bug is printed as a table: where it stands, what it was and became, and whether it was refused, still proved, or did not build; for a refusal also what could not be proved. A bug that
-is still proved means the same, or shows a contract that is too weak.
+Each bug is one small change in src/ of a copy of the tree: a comparison turned, a constant off by one, a sign or an
+end exchanged, arguments exchanged, a statement dropped, a check left out, the answers of two cases exchanged.
+Contracts, tests and comments are never touched. The bugs go round the functions of the crate, so that no function
+gets a second one before each has had one, until so many stand that build. Where a bug changes a name that a proof
+file cites, the file gets the new name, and where it takes the name away, the checker has to find a proof of its own:
+so that no bug is refused for a name.
+
+A row for each bug is printed as a table: where it stands, what it was and became, and whether it was refused, still
+proved, or did not build; for a refusal also what could not be proved. A bug that is still proved means the same, or
+shows a contract that is too weak.
 """
 import argparse
 import difflib
@@ -26,11 +31,15 @@ TURNED = [
     (r"\.low\b", ".high"), (r"\.high\b", ".low"), (r"\bfloor\b", "ceiling"), (r"\bceiling\b", "floor"),
     (r"\.min\(", ".max("), (r"\.max\(", ".min("), (r"\.raise\(", ".lower("), (r"\.lower\(", ".raise("),
     (r"\btrue\b", "false"), (r"\bfalse\b", "true"), (r"\.is_some\(", ".is_none("), (r"\.is_none\(", ".is_some("),
-    (r"\.is_ok\(", ".is_err("), (r"\.is_err\(", ".is_ok("), (r"if !", "if "), (r"if (?=[\w.()&, ]+ \{)(?!let )", "if !"),
+    (r"\.is_ok\(", ".is_err("), (r"\.is_err\(", ".is_ok("),
+    (r"if !", "if "), (r"if (?=[\w.()&, ]+ \{)(?!let )", "if !"),
     (r"\blots\(\)", "rules()"), (r"\brules\(\)", "lots()"), (r"\.first\b", ".length"), (r"\.length\b", ".first"),
     (r"\[\.\.", "[1.."), (r"\.saturating_sub\(", ".saturating_add("), (r"\.saturating_add\(", ".saturating_sub("),
 ]
-CLAUSE = re.compile(r"^\s*(//|ghost |requires|ensures|use |pub use |pub mod|mod |#|pub struct|struct |pub enum|enum |impl|pub trait|trait |where|\}|\) ->|\)$|\) \{$|prove!)")
+CLAUSE = re.compile(
+    r"^\s*(//|ghost |requires|ensures|use |pub use |pub mod|mod |#|pub struct|struct |pub enum|enum |impl|pub trait"
+    r"|trait |where|\}|\) ->|\)$|\) \{$|prove!)"
+)
 FUNCTION = re.compile(r"^\s*(?:pub(?:\([a-z]+\))? )?(?:const )?(?:unsafe )?(?:extern \"C\" )?fn (\w+)")
 
 
@@ -70,7 +79,7 @@ def candidates(crate):
             if began or not line.strip() or CLAUSE.match(line):
                 continue
             following = lines[number + 1] if number + 1 < len(lines) else ""
-            for changed, kind in {changed: kind for kind, changed in changes(line, following) if changed != line}.items():
+            for changed, kind in {to: kind for kind, to in changes(line, following) if to != line}.items():
                 yield path.relative_to(crate), function, number, changed, line, kind
 
 
@@ -94,25 +103,30 @@ def checked(crate):
 
 
 def mended(crate, said):
-    """Where an answer of a proof file cites a name that the bug has changed, it gets the new one; where the bug has taken the name away, the answer goes, and the checker looks for one of its own.
-    Says whether any file was changed."""
+    """Where an answer of a proof file cites a name that the bug has changed, it gets the new one; where the bug has
+    taken the name away, the answer goes, and the checker looks for one of its own. Says whether any file was
+    changed."""
     any_was = False
-    for place, answer, rest in re.findall(r"^\./(proofs/\S+/Answers\.antt):\d+:\d+: error: `([\w-]+)`: (.*has no .*)", said, re.M):
+    cited = r"^\./(proofs/\S+/Answers\.antt):\d+:\d+: error: `([\w-]+)`: (.*has no .*)"
+    for place, answer, rest in re.findall(cited, said, re.M):
         text = (crate / place).read_text()
         old = (re.findall(r"Goals` has no `([\w-]+)`", rest) or [answer])[0]
-        asked = [name for line in re.findall(r"`Goals` has no `" + re.escape(old) + r"`; rattle asks for (.*)", said) for name in re.findall(r"`([\w-]+)`", line)]
-        new = difflib.get_close_matches(old, [name for name in asked if not re.search(r"(?<![\w-])" + name + r"(?![\w-])", text)], 1, 0.7)
+        lines = re.findall(r"`Goals` has no `" + re.escape(old) + r"`; rattle asks for (.*)", said)
+        asked = [name for line in lines for name in re.findall(r"`([\w-]+)`", line)]
+        fresh = [name for name in asked if not re.search(r"(?<![\w-])" + name + r"(?![\w-])", text)]
+        new = difflib.get_close_matches(old, fresh, 1, 0.7)
         if new:
             text = re.sub(r"(?<![\w-])" + old + r"(?![\w-])", new[0], text)
         else:
-            text = "\n\n".join(part for part in text.split("\n\n") if not re.search(r"^(pub )?" + answer + " :", part, re.M))
+            parts = [part for part in text.split("\n\n") if not re.search(r"^(pub )?" + answer + " :", part, re.M)]
+            text = "\n\n".join(parts)
         any_was = any_was or text != (crate / place).read_text()
         (crate / place).write_text(text)
     return any_was
 
 
 def why(said):
-    """The first thing that could not be proved: by a proof file's answer, or a fact that is asked at a place in src/."""
+    """The first thing that could not be proved: by a proof file's answer, or a fact asked at a place in src/."""
     for line in said.split("\n"):
         m = re.match(r"^\./(proofs/\S+?)/(?:Answers|Proof|Invariants)\.antt:\d+:\d+: error: `([\w-]+)`", line)
         if m:
@@ -129,13 +143,16 @@ def why(said):
 
 def standing_on(tree, name):
     """The libraries that stand on a crate, lowest first."""
-    lines = [line.split(":") for line in (tree / "crates.txt").read_text().split("\n") if ":" in line and not line.startswith("#")]
+    text = (tree / "crates.txt").read_text()
+    lines = [line.split(":") for line in text.split("\n") if ":" in line and not line.startswith("#")]
     above = [head.split()[0] for head, deps in lines if name in deps.split()]
-    return [crate for crate in above if not crate.endswith("_tests") and (tree / "crates" / crate / "src/lib.rt").exists()]
+    library = lambda crate: (tree / "crates" / crate / "src/lib.rt").exists()
+    return [crate for crate in above if not crate.endswith("_tests") and library(crate)]
 
 
 def planted(tree, name, bug):
-    """What the checker says of one bug in a tree, which is afterwards as it was. A constant that its crate lets through is tried on the crates above, of which no contract shields them."""
+    """What the checker says of one bug in a tree, which is afterwards as it was. A constant that its crate lets
+    through is tried on the crates above, of which no contract shields them."""
     path, _, number, changed, line, _ = bug
     crate = tree / "crates" / name
     source, proofs = (crate / path).read_text(), {p: p.read_text() for p in (crate / "proofs").rglob("*.antt")}
@@ -149,7 +166,8 @@ def planted(tree, name, bug):
         proved, said = checked(crate)
     refused_above = ""
     if proved and re.search(r"\bconst \w+:", line):
-        refused_above = next((above for above in standing_on(tree, name) if not checked(tree / "crates" / above)[0]), "")
+        refusing = (above for above in standing_on(tree, name) if not checked(tree / "crates" / above)[0])
+        refused_above = next(refusing, "")
     (crate / path).write_text(source)
     for p, text in proofs.items():
         if p.read_text() != text:
@@ -174,7 +192,7 @@ def main():
     asked.add_argument("--seed", type=int, default=1)
     asked.add_argument("--only", default="", help="only lines with this text")
     asked.add_argument("--jobs", type=int, default=2, help="copies that are checked at a time")
-    asked.add_argument("--list", action="store_true", help="only tell how many places there are, and in how many functions")
+    asked.add_argument("--list", action="store_true", help="only tell how many places there are")
     asked = asked.parse_args()
     root = pathlib.Path(__file__).resolve().parent.parent
     bugs = [bug for bug in candidates(root / "crates" / asked.crate) if asked.only in bug[4]]
@@ -196,7 +214,8 @@ def main():
             row = [f"{path}:{number + 1}", function, kind, f"`{line.strip()}`", f"`{changed.strip()}`", answer, by]
             print("| " + " | ".join(cell.replace("|", "\\|") for cell in row) + " |", flush=True)
 
-    with ThreadPoolExecutor(asked.jobs) as pool, tempfile.TemporaryDirectory(dir=os.environ.get("TMPDIR")) as room:
+    scratch = tempfile.TemporaryDirectory(dir=os.environ.get("TMPDIR"))
+    with ThreadPoolExecutor(asked.jobs) as pool, scratch as room:
         rooms = [pathlib.Path(room) / str(job) for job in range(asked.jobs)]
         list(pool.map(work, rooms))
     print(f"\n{asked.crate}: {built()} built: " + ", ".join(f"{n} {answer}" for answer, n in sorted(counts.items())))
