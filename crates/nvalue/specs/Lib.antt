@@ -1,3 +1,4 @@
 pub mod Choices
 pub mod Laws
 pub mod Nvalue
+pub mod Stretches
