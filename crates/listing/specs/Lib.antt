@@ -1,4 +1,3 @@
 pub mod Faults
-pub mod Laws
 pub mod Lists
 pub mod Text

@@ -1,4 +1,5 @@
--- What the decimal form of a number is: digits that read as the number, no fewer digits read as it, and the first is 0 in the form of 0 alone, which is one digit.
+-- What the decimal form of a number is: its digits read as the number, and no fewer digits do.
+-- It has no leading nought, and 0 is one digit.
 use Rattle.std.specs.Prelude.{◌≡◌, ℕ, ◌^◌, ◌<◌, ◌≤◌, List, [], ◌∷◌, length, decimal, slice_index}
 use Rattle.std.specs.Str.Parse.{IsNumeral, digits_value}
 

@@ -2,7 +2,7 @@
 use Rattle.std.proofs.Common.{ℕ, ◌^◌, ◌<◌, length, decimal, ap, ◌∙◌, arith}
 use Rattle.std.proofs.lemmas.Fmt.{decimal_digit, decimal_is_IsNumeral, first_decimal, length-decimal-le}
 use Rattle.std.proofs.lemmas.Int.Digits.{digits_value-lt}
-use Rattle.listing.specs.Laws.{Form}
+use Rattle.decimal.specs.Laws.{Form}
 
 pub decimal_form_lem : (n : ℕ) → n < 2 ^ 64 → Form n (decimal n)
 decimal_form_lem n small =

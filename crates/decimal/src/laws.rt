@@ -1,5 +1,5 @@
 // What the decimal form of a number is, stated where the check asks for its proof.
-ghost use Rattle.listing.specs.Laws.{DecimalForm};
+ghost use Rattle.decimal.specs.Laws.{DecimalForm};
 
 pub fn decimal_form()
     ensures { DecimalForm }

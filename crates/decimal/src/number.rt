@@ -1,6 +1,6 @@
 // Numbers in decimal: how many digits one has, and its digits written to the front of lent bytes.
 ghost use Rattle.std.specs.Prelude.{◌≡◌, ◌≤◌, length, decimal};
-ghost use Rattle.listing.specs.Text.{over};
+ghost use Rattle.store.specs.Over.{over};
 
 use crate::text::write_text;
 use itoa::Buffer;
@@ -14,7 +14,7 @@ pub fn digits(n: usize) -> usize
 }
 
 // Writes the decimal form to the first bytes, and answers how many they are; the bytes past them stay.
-pub(crate) fn write_number(n: usize, out: &mut [u8]) -> usize
+pub fn write_number(n: usize, out: &mut [u8]) -> usize
     requires { length (decimal n) ≤ length out.old }
     ensures long { result ≡ length (decimal n) }
     ensures written { out.new ≡ over (decimal n) out.old }
