@@ -3,8 +3,8 @@
  * their ratio. Nothing here is part of the gate.
  *
  * Gecode gets an nvalues constraint for each end of a rule's count window, branches on the lots in their order and on
- * the smallest day first, with one thread: so its first solution is the earliest plan. Both must give the same plan, or
- * both none; a sheet on which Gecode does not come to an end within a second counts as that second, and is told.
+ * the smallest day first, with one thread: so its first solution is the earliest plan. Both must give the same plan,
+ * or both none; a sheet on which Gecode does not come to an end within a second counts as that second, and is told.
  */
 #include <gecode/int.hh>
 #include <gecode/search.hh>
@@ -321,7 +321,8 @@ int main()
         groups(sheet, [&](uint32_t first) { return Rule{first, 8, most(sheet, first, 8), 256}; });
         return sheet;
     });
-    family("32 overlapping stretches of 8 to 40, ceilings at the fewest", 4, [](Draw &d) { return overlapping(d, 0); });
+    family("32 overlapping stretches of 8 to 40, ceilings at the fewest", 4,
+           [](Draw &d) { return overlapping(d, 0); });
     family("32 overlapping stretches of 8 to 40, ceilings two above", 5, [](Draw &d) { return overlapping(d, 2); });
     family("floors and ceilings mixed, 24 lots", 6, [](Draw &d) { return mixed(d, 24, 3); });
     family("floors and ceilings mixed, 132 lots", 7, [](Draw &d) { return mixed(d, 132, 3); });

@@ -1,5 +1,5 @@
-/* Times the proved planner on whole sheets: start, rules, close, plan. Nothing here is proved. Sheets come from a fixed
-   seed. Times are medians, in microseconds. */
+/* Times the proved planner on whole sheets: start, rules, close, plan. Nothing here is proved. Sheets come from a
+   fixed seed. Times are medians, in microseconds. */
 #include <stdint.h>
 #include <stdio.h>
 #include <stdlib.h>
