@@ -3,3 +3,4 @@ pub mod Bounds
 pub mod Choices
 pub mod Nvalue
 pub mod Stretches
+pub mod Replaced

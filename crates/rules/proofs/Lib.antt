@@ -4,3 +4,4 @@ pub mod Lows
 pub mod Order
 pub mod Parts
 pub mod Points
+pub mod Replaced

@@ -1,5 +1,5 @@
 -- Laws of windows that lie inside others.
-use Rattle.std.proofs.Common.{ℕ, zero, suc, ◌≤◌, List, [], ◌∷◌, set, Result, inl, inr, sym, ◌∙◌, subst, arith}
+use Rattle.std.proofs.Common.{◌≡◌, ℕ, zero, suc, ◌≤◌, List, [], ◌∷◌, set, Result, inl, inr, sym, ◌∙◌, subst, arith}
 use Rattle.std.proofs.lemmas.Bool.{cases_lt}
 use Rattle.store.specs.declared.fault.StoreFault.{StoreFault}
 use Rattle.store.specs.declared.half_line.HalfLine.{HalfLine}
@@ -42,3 +42,7 @@ trims_narrow ws is p days r (moves _ s _ _ e) = subst (λ vs. Narrowed vs ws) (s
 pub onward_trim : {f g h : List Window → List ℕ} (us vs : List Window) (p : ℕ) (days : HalfLine) (r : Result (Unit {0}) StoreFault)
     → Trims us p days r vs → Onward f g us → Onward g h vs → Onward f h vs
 onward_trim us vs p days r t a b = λ ws n. b ws n ∙ a ws (narrowed_trans ws vs us n (trims_narrow us vs p days r t))
+
+-- what the memory is in the end, by the account of the beginning
+pub onward_here : {f g : List Window → List ℕ} (is : List Window) (memory : List ℕ) → g is ≡ memory → Onward f g is → memory ≡ f is
+onward_here is memory here on = sym here ∙ on is (narrowed_same is)
