@@ -1,39 +1,35 @@
--- What fewest and most are asked: which checks refuse, in which order, and what the lent memory holds afterwards.
+-- What fewest and most are asked: the checks in their order, and what the lent memory holds afterwards.
 -- `work` is how many working words were lent, `room` how many answer words.
-use Rattle.std.specs.Prelude.{◌≡◌, ℕ, ◌+◌, ◌-◌, ◌*◌, ◌<◌, ◌≤◌, ◌⊎◌, List, map, length, take, drop, Result, MatchResult}
+use Rattle.std.specs.Prelude.{◌≡◌, ℕ, ◌+◌, ◌-◌, ◌*◌, ◌<◌, ◌≤◌, List, [], ◌∷◌, ◌++◌, map, length, take, drop, Result}
 use Rattle.std.specs.List.{AllByRecursion}
 use Rattle.store.specs.declared.window.Window.{Window}
+use Rattle.store.specs.Checks.{Checked, refuse}
 use Rattle.store.specs.Pairs.{paired}
-use Rattle.nvalue.specs.Choices.{part}
+use Rattle.nvalue.specs.Choices.{NoStretch, part}
+use Rattle.nvalue.specs.Seasons.{lot_checks}
 use Rattle.count.specs.declared.fault.CountFault.{CountFault}
 use Rattle.count.specs.declared.fault.CountFault.TheVariants.{ShortWork, TooManyLots, FaultyWindow, NoSuchStretch, ShortAnswer}
 use Rattle.extremes.specs.Shown.{Least, Greatest}
 use Rattle.extremes.specs.declared.matching.Most.{Most}
-use Rattle.store.specs.Sound.{FirstFaulty, Sound}
 
--- windows that no question is answered for: more than 256, or a faulty one
-pub data Unfit (ws : List Window) (e : CountFault) : Type 0 where
-  too_many : 256 < length ws → e ≡ TooManyLots → Unfit ws e
-  faulty_one : (p : ℕ) → length ws ≤ 256 → FirstFaulty ws p → e ≡ FaultyWindow p → Unfit ws e
+-- that there is such a stretch, and two answer words for each of its lots
+abbrev pub stretch_checks : ℕ → ℕ → ℕ → ℕ → List (CountFault → Type 0)
+stretch_checks lots first len room =
+    refuse NoSuchStretch (NoStretch lots first len)
+    ∷ refuse ShortAnswer (room < 2 * len)
+    ∷ []
 
--- nothing stands against the question
-pub record Accepts (work : ℕ) (ws : List Window) (first len room : ℕ) : Type 0 where
-  pub words : 4096 ≤ work
-  pub few : length ws ≤ 256
-  pub sound : AllByRecursion Sound ws
-  pub some : 1 ≤ len
-  pub within : first + len ≤ length ws
-  pub fits : 2 * len ≤ room
+-- the checks of a question that has its working words
+abbrev pub lent_checks : List Window → ℕ → ℕ → ℕ → List (CountFault → Type 0)
+lent_checks ws first len room =
+    lot_checks TooManyLots FaultyWindow ws ++ stretch_checks (length ws) first len room
 
--- the first check that fails, in this order
-pub data Refuses (work : ℕ) (ws : List Window) (first len room : ℕ) (e : CountFault) : Type 0 where
-  short_work : work < 4096 → e ≡ ShortWork → Refuses work ws first len room e
-  too_many_lots : 4096 ≤ work → 256 < length ws → e ≡ TooManyLots → Refuses work ws first len room e
-  faulty_window : (p : ℕ) → 4096 ≤ work → length ws ≤ 256 → FirstFaulty ws p → e ≡ FaultyWindow p → Refuses work ws first len room e
-  no_such_stretch : 4096 ≤ work → length ws ≤ 256 → AllByRecursion Sound ws → (len ≡ 0) ⊎ (length ws < first + len) → e ≡ NoSuchStretch → Refuses work ws first len room e
-  short_answer : 4096 ≤ work → length ws ≤ 256 → AllByRecursion Sound ws → 1 ≤ len → first + len ≤ length ws → room < 2 * len → e ≡ ShortAnswer → Refuses work ws first len room e
+-- all checks of a question, in their order
+abbrev pub count_checks : ℕ → List Window → ℕ → ℕ → ℕ → List (CountFault → Type 0)
+count_checks work ws first len room = refuse ShortWork (work < 4096) ∷ lent_checks ws first len room
 
--- The answer words hold a choice for the windows ws of a stretch, one word a lot, then m lot numbers; `first` is the number of the stretch's first lot.
+-- The answer words hold a choice for the windows ws of a stretch, one word a lot, then m lot numbers; `first` is the
+-- number of the stretch's first lot.
 pub record FewestAnswer (ws : List Window) (first : ℕ) (was is : List ℕ) (m : ℕ) : Type 0 where
   pub shown : Least ws (take (length ws) is) (map (λ lot. lot - first) (part is (length ws) m)) m
   pub numbers : AllByRecursion (λ lot. first ≤ lot) (part is (length ws) m)
@@ -49,10 +45,9 @@ pub record MostAnswer (ws : List Window) (was is : List ℕ) (m s : ℕ) : Type 
 abbrev pub MostShown : List Window → ℕ → List ℕ → List ℕ → Most → Type 0
 MostShown ws first was is m = MostAnswer ws was is m.count m.runs
 
--- A question about the stretch of `len` lots from the lot `first` on answers `r`, and the answer words are `is` in place of `was`: with nothing against it, what it
--- answers holds of the windows of the stretch; else the first check that fails is named, and the answer words stay.
-abbrev pub Asks : {C : Type 0} → (List Window → ℕ → List ℕ → List ℕ → C → Type 0) → ℕ → List Window → ℕ → ℕ → List ℕ → Result C CountFault → List ℕ → Type 0
-Asks Answers work ws first len was r is =
-    MatchResult r
-    (λ m. Accepts work ws first len (length was) × Answers (part ws first len) first was is m)
-    (λ e. Refuses work ws first len (length was) e × (is ≡ was))
+-- A question about the stretch of `len` lots from the lot `first` on answers `r`, and the answer words are `is` in
+-- place of `was`: what it answers holds of the windows of the stretch; refused, the answer words stay.
+abbrev pub Asks : {C : Type 0} → (List Window → ℕ → List ℕ → List ℕ → C → Type 0) → List (CountFault → Type 0)
+    → List Window → ℕ → ℕ → List ℕ → Result C CountFault → List ℕ → Type 0
+Asks Answers checks ws first len was r is =
+    Checked checks r (λ m. Answers (part ws first len) first was is m) (is ≡ was)

@@ -2,8 +2,8 @@
 use Rattle.std.specs.Prelude.{ℕ, List, ◌++◌, codes, decimal}
 use Rattle.count.specs.declared.fault.CountFault.{CountFault}
 use Rattle.count.specs.declared.fault.CountFault.TheVariants.{ShortWork, TooManyLots, FaultyWindow, NoSuchStretch, ShortAnswer}
-use Rattle.store.specs.declared.season.SeasonFault.{SeasonFault}
-use Rattle.store.specs.declared.season.SeasonFault.TheVariants.{TooManyLots as TooMany, FaultyWindow as Faulty}
+use Rattle.nvalue.specs.declared.season.SeasonFault.{SeasonFault}
+use Rattle.nvalue.specs.declared.season.SeasonFault.TheVariants.{TooManyLots as TooMany, FaultyWindow as Faulty}
 
 abbrev pub number_of : CountFault → ℕ
 number_of ShortWork = 6

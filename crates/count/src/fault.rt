@@ -3,7 +3,7 @@ ghost use Rattle.std.specs.Prelude.{◌≡◌, Some};
 ghost use Rattle.count.specs.Faults.{fault_text, number_of, of_season, place_of};
 
 use std::fmt;
-use store::season::SeasonFault;
+use nvalue::season::SeasonFault;
 
 #[derive(Clone, Copy, PartialEq, Eq, Debug)]
 pub enum CountFault {

@@ -1,17 +1,16 @@
-// A question about the windows of a stretch, over any store: every question makes the same checks in the same order, and uses the working words alike.
-ghost use Rattle.std.specs.Prelude.{◌≡◌, ℕ, ◌+◌, ◌*◌, ◌<◌, ◌≤◌, List, ◌⊎◌, length, MatchResult, slice_index};
+// A question about the windows of a stretch, over any store: every question makes the same checks in the same order,
+// and uses the working words alike.
+ghost use Rattle.std.specs.Prelude.{◌≡◌, ℕ, ◌*◌, ◌<◌, ◌≤◌, List, length, slice_index};
 ghost use Rattle.store.specs.declared.window.Window.{Window};
+ghost use Rattle.store.specs.Checks.{Checked};
 ghost use Rattle.nvalue.specs.Choices.{part};
-ghost use Rattle.count.specs.Asked.{Asks};
-ghost use Rattle.count.specs.declared.fault.CountFault.TheVariants.{NoSuchStretch};
+ghost use Rattle.count.specs.Asked.{Asks, count_checks, lent_checks, stretch_checks};
 ghost use Rattle.guard.specs.Cleared.{Cleared};
 
 use crate::fault::CountFault;
+use guard::guard::{Guard, WORDS};
+use nvalue::season::{ROOM, Season, read_windows};
 use nvalue::stretch::Stretch;
-use guard::guard::{Page, WORDS};
-use guard::windows::take_season;
-use store::limits::LOTS;
-use store::season::Season;
 use store::store::WindowStore;
 use store::window::Window;
 
@@ -19,7 +18,8 @@ pub trait Question {
     // What is counted.
     type Count;
 
-    // What an answer says of the windows of a stretch that begins at a lot, of the answer words before and after, and of the count.
+    // What an answer says of the windows of a stretch that begins at a lot, of the answer words before and after,
+    // and of the count.
     ghost Answers: { List Window → ℕ → List ℕ → List ℕ → Self.Count → Type 0 };
 
     // Answers for the windows of a stretch that begins at the lot `first`.
@@ -36,7 +36,7 @@ pub(crate) fn ask<Q: Question, S: WindowStore>(
     answer: &mut [u32],
     work: &mut [u32],
 ) -> Result<Q::Count, CountFault>
-    ensures asked { Asks Q.Question.Answers (length work.old) (S.WindowStore.windows store.now) stretch.first stretch.length answer.old result answer.new }
+    ensures asked { Asks Q.Question.Answers (count_checks (length work.old) (S.WindowStore.windows store.now) stretch.first stretch.length (length answer.old)) (S.WindowStore.windows store.now) stretch.first stretch.length answer.old result answer.new }
     ensures cleared { Cleared work.old work.new }
 {
     if work.len() < WORDS {
@@ -45,35 +45,42 @@ pub(crate) fn ask<Q: Question, S: WindowStore>(
     ask_on::<Q, S>(store, stretch, answer, &mut work[0..WORDS])
 }
 
-// The same on a page of working words, which is zero afterwards.
+// The same with the words at hand, which are zero afterwards.
 fn ask_on<Q: Question, S: WindowStore>(
     store: &S,
     stretch: Stretch,
     answer: &mut [u32],
-    page: &mut [u32],
+    words: &mut [u32],
 ) -> Result<Q::Count, CountFault>
-    requires { length page.old ≡ 4096 }
-    ensures asked { (work : ℕ) → 4096 ≤ work → Asks Q.Question.Answers work (S.WindowStore.windows store.now) stretch.first stretch.length answer.old result answer.new }
-    ensures zero { (k : ℕ) → k < length page.new → slice_index page.new k ≡ 0 }
+    requires { length words.old ≡ 4096 }
+    ensures asked { Asks Q.Question.Answers (lent_checks (S.WindowStore.windows store.now) stretch.first stretch.length (length answer.old)) (S.WindowStore.windows store.now) stretch.first stretch.length answer.old result answer.new }
+    ensures zero { (k : ℕ) → k < length words.new → slice_index words.new k ≡ 0 }
 {
-    let page = Page { words: page };
-    let mut room = [Window::default(); LOTS];
-    let season = take_season(store, page.words, &mut room)?;
-    let season = take_stretch(season, stretch)?;
-    if answer.len() < 2 * stretch.length {
-        return Err(CountFault::ShortAnswer);
-    }
-    Ok(Q::find(season, stretch.first, answer))
+    let _guard = Guard { words };
+    let mut room = [Window::default(); ROOM];
+    let lots = read_windows(store, &mut room)?;
+    let season = Season {
+        windows: &room[..lots],
+    };
+    ask_of::<Q>(season, stretch, answer)
 }
 
-// The windows of a stretch that has a lot and ends with the last lot at the latest.
-fn take_stretch<'a>(season: Season<'a>, stretch: Stretch) -> Result<Season<'a>, CountFault>
-    ensures { MatchResult result (λ taken. (1 ≤ stretch.length) × (stretch.first + stretch.length ≤ length season.entry.windows.now) × (taken.windows.now ≡ part season.entry.windows.now stretch.first stretch.length)) (λ e. (e ≡ NoSuchStretch) × ((stretch.length ≡ 0) ⊎ (length season.entry.windows.now < stretch.first + stretch.length))) }
+// The same of the windows of all lots.
+fn ask_of<Q: Question>(
+    season: Season,
+    stretch: Stretch,
+    answer: &mut [u32],
+) -> Result<Q::Count, CountFault>
+    requires { length season.windows.now ≤ 256 }
+    ensures { Asks Q.Question.Answers (stretch_checks (length season.entry.windows.now) stretch.first stretch.length (length answer.old)) season.entry.windows.now stretch.first stretch.length answer.old result answer.new }
 {
     if !stretch.lies_within(season.windows.len()) {
         return Err(CountFault::NoSuchStretch);
     }
-    season
-        .part(stretch.first, stretch.length)
-        .ok_or(CountFault::NoSuchStretch)
+    let windows = season.part(stretch.first, stretch.length);
+    let windows = windows.ok_or(CountFault::NoSuchStretch)?;
+    if answer.len() < 2 * stretch.length {
+        return Err(CountFault::ShortAnswer);
+    }
+    Ok(Q::find(windows, stretch.first, answer))
 }

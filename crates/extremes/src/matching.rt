@@ -8,8 +8,8 @@ ghost use Rattle.store.specs.Sound.{Sound};
 ghost use Rattle.extremes.specs.Turns.{EndBefore, Taken, Free, Turn};
 
 use crate::order::{Slot, by_last_day};
-use store::limits::{DAYS, LOTS};
-use store::season::Season;
+use store::limits::DAYS;
+use nvalue::season::{ROOM, Season};
 use store::window::Window;
 
 // The greatest count, and how many runs show it.
@@ -30,7 +30,7 @@ pub fn most_of(season: Season, days: &mut [u32], runs: &mut [Window]) -> Most
     ensures shown { Greatest season.entry.windows.now days.new (take result.runs runs.new) result.count }
     ensures room { result.runs ≤ length runs.new }
 {
-    let mut room = [(0, 0); LOTS];
+    let mut room = [(0, 0); ROOM];
     place_lots(season, by_last_day(season, &mut room), days, runs)
 }
 
@@ -87,7 +87,7 @@ fn place_lot(window: Window, taken: &mut [bool], runs: &mut [Window], most: &mut
     requires sound { Sound window }
     requires ends { window.high < length taken.old }
     requires room { most.old.runs < length runs.old }
-    requires few { most.old.count ≤ 256 }
+    requires few { most.old.count ≤ 257 }
     ensures { Turn window result taken.old runs.old most.old taken.new runs.new most.new }
 {
     let day = first_free(taken, window);

@@ -2,8 +2,8 @@
 ghost use Rattle.std.specs.Prelude.{◌≡◌, map, length};
 ghost use Rattle.extremes.specs.Mirror.{flip, mirrored};
 
-use store::limits::{LAST_DAY, LOTS};
-use store::season::Season;
+use store::limits::LAST_DAY;
+use nvalue::season::{ROOM, Season};
 use store::window::Window;
 
 // The mirror image of a day. No day lies past the last, so the subtraction never saturates.
@@ -28,7 +28,7 @@ fn mirror_windows(windows: &[Window], image: &mut [Window])
 }
 
 // The mirror image of a season, in the room that is lent for it.
-pub fn mirror_season<'a>(season: Season, room: &'a mut [Window; LOTS]) -> Season<'a>
+pub fn mirror_season<'a>(season: Season, room: &'a mut [Window; ROOM]) -> Season<'a>
     ensures { result.windows.now ≡ map mirrored season.entry.windows.now }
 {
     let image = &mut room[0..season.windows.len()];

@@ -6,8 +6,7 @@ ghost use Rattle.extremes.specs.Points.{lasts, Points};
 ghost use Rattle.extremes.specs.Shown.{Least};
 
 use crate::order::{Slot, by_last_day};
-use store::limits::LOTS;
-use store::season::Season;
+use nvalue::season::{ROOM, Season};
 
 // Writes a choice with the fewest different days, and as many lots whose windows share no day pairwise.
 // That `days` is as long as the season is a clause: the two come from different hands, so no one type can hold both.
@@ -18,7 +17,7 @@ pub fn fewest_of(season: Season, days: &mut [u32], lots: &mut [u32]) -> usize
     ensures room { result ≤ length season.entry.windows.now }
     ensures points { Points season.entry.windows.now (lasts season.entry.windows.now (take result lots.new)) }
 {
-    let mut room = [(0, 0); LOTS];
+    let mut room = [(0, 0); ROOM];
     serve(season, by_last_day(season, &mut room), days, lots)
 }
 

@@ -1,1 +1,1 @@
-pub mod Surveys
+pub mod Cleared

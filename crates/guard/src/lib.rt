@@ -1,5 +1,4 @@
-// The working words of a call: a guard that clears them, and windows on them. Internal: its callers prove what it asks.
+// The working words of a call, and the guard that clears them. Internal: its callers prove what it asks.
 #![tactic(auto)]
 
 pub mod guard;
-pub mod windows;

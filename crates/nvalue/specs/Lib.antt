@@ -1,4 +1,5 @@
 pub mod Choices
 pub mod Laws
 pub mod Nvalue
+pub mod Seasons
 pub mod Stretches

@@ -4,4 +4,5 @@
 pub mod count;
 pub mod count_window;
 pub mod laws;
+pub mod season;
 pub mod stretch;

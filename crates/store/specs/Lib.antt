@@ -2,7 +2,6 @@ pub mod Checks
 pub mod Each
 pub mod Over
 pub mod Pairs
-pub mod Seasons
 pub mod Sound
 pub mod Texts
 pub mod Verdicts

@@ -1,0 +1,24 @@
+-- Which windows make no season, as checks in their order.
+use Rattle.std.specs.Prelude.{◌≡◌, ℕ, ◌<◌, ◌≤◌, List, [], ◌∷◌, length}
+use Rattle.store.specs.declared.window.Window.{Window}
+use Rattle.store.specs.Checks.{refuse}
+use Rattle.store.specs.Over.{over}
+use Rattle.store.specs.Sound.{FirstFaulty}
+use Rattle.nvalue.specs.declared.season.SeasonFault.{SeasonFault}
+use Rattle.nvalue.specs.declared.season.SeasonFault.TheVariants.{TooManyLots, FaultyWindow}
+
+-- the check that refuses windows for the first faulty one, and names its lot
+abbrev pub faulty : {E : Type 0} → (ℕ → E) → List Window → E → Type 0
+faulty Names ws e = (p : ℕ) × FirstFaulty ws p × (e ≡ Names p)
+
+-- more than 256 windows are refused, then a faulty one: with the refusals of a call
+abbrev pub lot_checks : {E : Type 0} → E → (ℕ → E) → List Window → List (E → Type 0)
+lot_checks Many Names ws = refuse Many (256 < length ws) ∷ faulty Names ws ∷ []
+
+abbrev pub season_checks : List Window → List (SeasonFault → Type 0)
+season_checks ws = lot_checks TooManyLots FaultyWindow ws
+
+-- windows at the head of a room, and the rest of it as before; more than 256 leave the room as it is
+pub record Filled (ws was is : List Window) : Type 0 where
+  pub few : length ws ≤ 256 → is ≡ over ws was
+  pub many : 256 < length ws → is ≡ was
