@@ -1,6 +1,6 @@
 -- Laws of lists of checks.
-use Rattle.std.proofs.Common.{List, [], ◌∷◌, ◌++◌}
-use Rattle.store.specs.Checks.{Passes, Refused, here, later}
+use Rattle.std.proofs.Common.{◌≡◌, ◌⊎◌, ◌↔◌, List, [], ◌∷◌, ◌++◌, Ok, Err, Result, inl, inr, ap, subst}
+use Rattle.store.specs.Checks.{Checked, Passes, Refused, here, later, refuse}
 
 -- one list of checks after another
 module _ {E : Type 0} where
@@ -26,3 +26,24 @@ module _ {E : Type 0} where
   passes_refused [] e p r = r
   passes_refused (c ∷ cs) e p (here h) = p.0 e h
   passes_refused (c ∷ cs) e p (later _ r) = passes_refused cs e p.1 r
+
+  -- of two lists of checks, one after the other, the first refuses, or it passes and the second refuses
+  pub refused_split : (checks more : List (E → Type 0)) (e : E) → Refused (checks ++ more) e → Refused checks e ⊎ (Passes checks × Refused more e)
+  refused_split [] more e r = inr (tt, r)
+  refused_split (c ∷ cs) more e (here h) = inl (here h)
+  refused_split (c ∷ cs) more e (later n r) = elim (refused_split cs more e r) [ inl q ↦ inl (later n q) | inr q ↦ inr ((n, q.0), q.1) ]
+
+-- A call whose last check refuses in a way of its own does so exactly where the others pass and that check's condition holds.
+pub exactly_last : {E V : Type 0} (first : List (E → Type 0)) (why : E) (None : Type 0) (r : Result V E) (Given : V → Type 0) (Stays : Type 0)
+    → (Refused first why → ⊥) → ((v : V) → Given v → None → ⊥) → Checked (first ++ refuse why None ∷ []) r Given Stays
+    → (r ≡ Err why) ↔ (Passes first × None)
+exactly_last {E} {V} first why None (Ok v) Given Stays own given h = (λ s. cc, λ p. absurd (given v h.1 p.1))
+exactly_last {E} {V} first why None (Err e) Given Stays own given h =
+    elim (refused_split first (refuse why None ∷ []) e h.0) [
+      | inl r ↦ (λ s. let same : e ≡ why = cc in absurd (own (subst (Refused first) same r)), λ p. absurd (passes_refused first e p.0 r))
+      | inr p ↦ (λ s. (p.0, (last p.1).0), λ q. ap Err (last p.1).1)
+    ]
+  where
+    last : Refused (refuse why None ∷ []) e → None × (e ≡ why)
+    last (here k) = k
+    last (later _ k) = absurd k
