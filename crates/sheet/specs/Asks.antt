@@ -1,51 +1,81 @@
--- What the four asks give, case by case in the order of their checks; a refusal leaves store and book as they were.
-use Rattle.std.specs.Prelude.{◌≡◌, ℕ, ◌<◌, ◌≤◌, min, max, List, length, Ok, Err, Result, slice_set}
+-- What the four asks give: the order of their checks, and what an accepted one leaves. A refusal changes nothing.
+use Rattle.std.specs.Prelude.{◌≡◌, ℕ, ◌<◌, ◌≤◌, min, max, List, [], ◌∷◌, length, Ok, Result, slice_set}
+use Rattle.store.specs.Checks.{Checked, refuse}
 use Rattle.store.specs.declared.fault.StoreFault.{StoreFault}
+use Rattle.store.specs.declared.fault.StoreFault.TheVariants.{NoSuchLot, WouldEmpty}
+use Rattle.store.specs.declared.half_line.HalfLine.{HalfLine}
+use Rattle.store.specs.declared.half_line.HalfLine.TheVariants.{From, UpTo}
 use Rattle.store.specs.declared.window.Window.{Window}
-use Rattle.store.specs.Windows.{Raises, Lowers}
+use Rattle.store.specs.Windows.{window_at, Within, Misses, Trims}
 use Rattle.rules.specs.declared.row.Row.{Row}
+use Rattle.rules.specs.Sheets.{rule_at}
 use Rattle.sheet.specs.declared.book.Book.{Book}
 use Rattle.sheet.specs.declared.fault.SheetFault.{SheetFault}
 use Rattle.sheet.specs.declared.fault.SheetFault.TheVariants.{Store, Mismatch, NoSuchDay, NoSuchRule, NoCountLeft}
-use Rattle.sheet.specs.declared.slip.Closed.{Closed}
-use Rattle.sheet.specs.Books.{rules_of, lots_of, row, rule_at}
+use Rattle.sheet.specs.Books.{rules_of, lots_of}
 use Rattle.sheet.specs.Drafts.{Agree}
 
 -- slip, book and store have the same lots, and slip and book as many rules
-abbrev pub AllAgree : Closed → Book → List Window → Type 0
-AllAgree slip book ws = Agree slip.lots slip.rules book × (slip.lots ≡ length ws)
+abbrev pub AllAgree : ℕ → ℕ → Book → List Window → Type 0
+AllAgree lots rules book ws = Agree lots rules book × (lots ≡ length ws)
 
--- what a house is told of a store's answer about a lot: its refusal comes whole, with the lot
-abbrev pub told : ℕ → Result (Unit {0}) StoreFault → Result (Unit {0}) SheetFault
-told lot (Ok done) = Ok done
-told lot (Err fault) = Err (Store (record { lot = lot; fault = fault }))
+-- the number at which a half-line ends
+abbrev pub end_of : HalfLine → ℕ
+end_of (From number) = number
+end_of (UpTo number) = number
 
--- An ask for a lot's day. `Moves s is` says that the store answers s and then shows the windows `is`.
-pub data AsksDay (Moves : Result (Unit {0}) StoreFault → List Window → Type 0) (lot day : ℕ) (slip : Closed) (book : Book) (was : List Window) (r : Result (Unit {0}) SheetFault) (is : List Window) : Type 0 where
-  mismatch : (AllAgree slip book was → ⊥) → r ≡ Err Mismatch → is ≡ was → AsksDay Moves lot day slip book was r is
-  no_such_day : AllAgree slip book was → 9999 < day → r ≡ Err NoSuchDay → is ≡ was → AsksDay Moves lot day slip book was r is
-  asked : (s : Result (Unit {0}) StoreFault) → AllAgree slip book was → day ≤ 9999 → Moves s is → r ≡ told lot s → AsksDay Moves lot day slip book was r is
+-- the store's own refusal, whole, with the lot
+abbrev pub of_store : ℕ → StoreFault → SheetFault
+of_store lot fault = Store (record { lot = lot; fault = fault })
 
--- not before: the lot's first day is to be that day or a later one
-abbrev pub NotBefore : ℕ → ℕ → Closed → Book → List Window → Result (Unit {0}) SheetFault → List Window → Type 0
-NotBefore lot day slip book was = AsksDay (Raises was lot day) lot day slip book was
+-- the checks of an ask for a lot's days, over the windows of a store
+abbrev pub day_checks : ℕ → HalfLine → ℕ → ℕ → Book → List Window → List (SheetFault → Type 0)
+day_checks lot days lots rules book ws =
+    refuse Mismatch (AllAgree lots rules book ws → ⊥)
+    ∷ refuse NoSuchDay (9999 < end_of days)
+    ∷ refuse (of_store lot NoSuchLot) (length ws ≤ lot)
+    ∷ refuse (of_store lot WouldEmpty) ((Within days (window_at ws lot) → ⊥) × Misses days (window_at ws lot))
+    ∷ []
 
--- not after: the lot's last day is to be that day or an earlier one
-abbrev pub NotAfter : ℕ → ℕ → Closed → Book → List Window → Result (Unit {0}) SheetFault → List Window → Type 0
-NotAfter lot day slip book was = AsksDay (Lowers was lot day) lot day slip book was
+-- The lot is to be extracted on a day of the half-line.
+abbrev pub AsksDays : ℕ → HalfLine → ℕ → ℕ → Book → List Window → Result (Unit {0}) SheetFault → List Window → Type 0
+AsksDays lot days lots rules book was r is =
+    Checked (day_checks lot days lots rules book was) r (λ _. Trims was lot days (Ok tt) is) (is ≡ was)
 
--- An ask for a rule's count. `Empties q` says that no count would be left in the rule q, `tightened q` is the rule that it becomes.
-pub data AsksCount (Empties : Row → Type 0) (tightened : Row → Row) (rule : ℕ) (slip : Closed) (was : Book) (r : Result (Unit {0}) SheetFault) (is : Book) : Type 0 where
-  mismatch : (Agree slip.lots slip.rules was → ⊥) → r ≡ Err Mismatch → is ≡ was → AsksCount Empties tightened rule slip was r is
-  no_such_rule : Agree slip.lots slip.rules was → length (rules_of was) ≤ rule → r ≡ Err (NoSuchRule rule) → is ≡ was → AsksCount Empties tightened rule slip was r is
-  no_count_left : Agree slip.lots slip.rules was → rule < length (rules_of was) → Empties (rule_at (rules_of was) rule) → r ≡ Err (NoCountLeft rule) → is ≡ was → AsksCount Empties tightened rule slip was r is
-  asked : Agree slip.lots slip.rules was → rule < length (rules_of was) → (Empties (rule_at (rules_of was) rule) → ⊥) → r ≡ Ok tt
-      → lots_of is ≡ lots_of was → rules_of is ≡ slice_set (rules_of was) rule (tightened (rule_at (rules_of was) rule)) → AsksCount Empties tightened rule slip was r is
+-- not before: the lot's first day is to be that day or a later one; not after: its last day is to be that or an earlier one
+abbrev pub NotBefore : ℕ → ℕ → ℕ → ℕ → Book → List Window → Result (Unit {0}) SheetFault → List Window → Type 0
+NotBefore lot day = AsksDays lot (From day)
 
--- at least: the floor rises to a number, where it lies below
-abbrev pub AtLeast : ℕ → ℕ → Closed → Book → Result (Unit {0}) SheetFault → Book → Type 0
-AtLeast rule number = AsksCount (λ q. q.ceiling < number) (λ q. row q.first q.length (max q.floor number) q.ceiling) rule
+abbrev pub NotAfter : ℕ → ℕ → ℕ → ℕ → Book → List Window → Result (Unit {0}) SheetFault → List Window → Type 0
+NotAfter lot day = AsksDays lot (UpTo day)
 
--- at most: the ceiling drops to a number, where it lies above
-abbrev pub AtMost : ℕ → ℕ → Closed → Book → Result (Unit {0}) SheetFault → Book → Type 0
-AtMost rule number = AsksCount (λ q. number < q.floor) (λ q. row q.first q.length q.floor (min q.ceiling number)) rule
+-- a rule that is to keep only the counts of a half-line: its floor rises where it lies below, or its ceiling drops
+abbrev pub tightened : HalfLine → Row → Row
+tightened (From number) r = record { stretch = r.stretch; floor = max r.floor number; ceiling = r.ceiling }
+tightened (UpTo number) r = record { stretch = r.stretch; floor = r.floor; ceiling = min r.ceiling number }
+
+-- the checks of an ask for a rule's counts
+abbrev pub count_checks : ℕ → HalfLine → ℕ → ℕ → Book → List (SheetFault → Type 0)
+count_checks rule counts lots rules book =
+    refuse Mismatch (Agree lots rules book → ⊥)
+    ∷ refuse (NoSuchRule rule) (length (rules_of book) ≤ rule)
+    ∷ refuse (NoCountLeft rule) (NoneLeft (tightened counts (rule_at (rules_of book) rule)))
+    ∷ []
+  where
+    NoneLeft : Row → Type 0
+    NoneLeft r = r.ceiling < r.floor
+
+-- The rule's stretch is to have a count of the half-line.
+abbrev pub AsksCounts : ℕ → HalfLine → ℕ → ℕ → Book → Result (Unit {0}) SheetFault → Book → Type 0
+AsksCounts rule counts lots rules was r is =
+    Checked (count_checks rule counts lots rules was) r
+    (λ _. (lots_of is ≡ lots_of was)
+    × (rules_of is ≡ slice_set (rules_of was) rule (tightened counts (rule_at (rules_of was) rule))))
+    (is ≡ was)
+
+-- at least: the count is to be that number or more; at most: that number or less
+abbrev pub AtLeast : ℕ → ℕ → ℕ → ℕ → Book → Result (Unit {0}) SheetFault → Book → Type 0
+AtLeast rule number = AsksCounts rule (From number)
+
+abbrev pub AtMost : ℕ → ℕ → ℕ → ℕ → Book → Result (Unit {0}) SheetFault → Book → Type 0
+AtMost rule number = AsksCounts rule (UpTo number)

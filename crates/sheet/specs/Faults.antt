@@ -2,8 +2,8 @@
 use Rattle.std.specs.Prelude.{ℕ, List, ◌++◌, codes, decimal, Ok, Err, Result}
 use Rattle.store.specs.declared.fault.StoreFault.{StoreFault}
 use Rattle.store.specs.declared.fault.StoreFault.TheVariants.{NoSuchLot, WouldEmpty}
-use Rattle.store.specs.declared.season.SeasonFault.{SeasonFault}
-use Rattle.store.specs.declared.season.SeasonFault.TheVariants.{TooManyLots as TooMany, FaultyWindow as Faulty}
+use Rattle.nvalue.specs.declared.season.SeasonFault.{SeasonFault}
+use Rattle.nvalue.specs.declared.season.SeasonFault.TheVariants.{TooManyLots as TooMany, FaultyWindow as Faulty}
 use Rattle.sheet.specs.declared.fault.SheetFault.{SheetFault}
 use Rattle.sheet.specs.declared.fault.StoreRefusal.{StoreRefusal}
 use Rattle.sheet.specs.declared.fault.SheetFault.TheVariants.{Store, NoSuchDay, NoSuchStretch, NoSuchCount, NoSuchRule, ShortWork, ShortAnswer, TooManyLots, FaultyWindow, BookFull, NoCountLeft, NoFirmWindows, NoPlan, Mismatch}

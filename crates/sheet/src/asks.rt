@@ -1,20 +1,20 @@
 // The asks: with a closed slip, a lot's window or a rule's count window is narrowed.
-ghost use Rattle.std.specs.Prelude.{◌≡◌, ◌<◌, ◌≤◌, min, max, ◌⊎◌, length, MatchResult, ◌≢◌};
-ghost use Rattle.sheet.specs.Asks.{AllAgree, NotBefore, NotAfter, AtLeast, AtMost, told};
-ghost use Rattle.sheet.specs.Books.{rule_at, rules_of};
-ghost use Rattle.sheet.specs.Drafts.{Agree};
-ghost use Rattle.sheet.specs.declared.fault.SheetFault.TheVariants.{Mismatch, NoSuchDay, NoSuchRule};
+ghost use Rattle.std.specs.Prelude.{◌≡◌, ◌<◌, MatchResult};
+ghost use Rattle.store.specs.Checks.{Checked};
+ghost use Rattle.store.specs.Windows.{Onward};
+ghost use Rattle.store.specs.declared.half_line.HalfLine.TheVariants.{From, UpTo};
+ghost use Rattle.sheet.specs.Asks.{AllAgree, AsksCounts, AsksDays, AtLeast, AtMost, NotAfter, NotBefore};
+ghost use Rattle.sheet.specs.declared.fault.SheetFault.TheVariants.{Mismatch};
 
 use crate::book::Book;
 use crate::fault::{SheetFault, about_lot};
 use crate::slip::Closed;
 use nvalue::count_window::CountWindow;
-use store::fault::StoreFault;
+use store::half_line::HalfLine;
 use store::limits::LAST_DAY;
 use store::store::WindowStore;
 
 // A lot is to be extracted on a day or later.
-// That a store whose windows stay is the same store, and that its frame stays, is a clause of every call that writes one: it is about a caller's memory, before and after, which no type of the sheet holds.
 pub fn not_before<S: WindowStore>(
     slip: &Closed,
     store: &mut S,
@@ -22,16 +22,15 @@ pub fn not_before<S: WindowStore>(
     lot: usize,
     day: u32,
 ) -> Result<(), SheetFault>
-    ensures asks { NotBefore lot day slip.now book.now (S.WindowStore.windows store.old) result (S.WindowStore.windows store.new) }
-    ensures still { S.WindowStore.windows store.new ≡ S.WindowStore.windows store.old → store.new ≡ store.old }
-    ensures moved { (S.WindowStore.windows store.new ≢ S.WindowStore.windows store.old) → S.WindowStore.footing store.new ≡ S.WindowStore.raised store.old lot day }
+    ensures asks { NotBefore lot day slip.now.lots slip.now.rules book.now (S.WindowStore.windows store.old) result (S.WindowStore.windows store.new) }
+    ensures reach { Onward (S.WindowStore.reached store.old) (S.WindowStore.reached store.new) (S.WindowStore.windows store.new) }
+    ensures memory { S.WindowStore.memory store.new ≡ S.WindowStore.reached store.old (S.WindowStore.windows store.new) }
     ensures framed { S.WindowStore.frame store.new ≡ S.WindowStore.frame store.old }
 {
-    may_ask(slip, book, store, day)?;
-    answered(lot, store.raise(lot, day))
+    ask_days(slip, store, book, lot, HalfLine::From(day))
 }
 
-// A lot is to be extracted on a day or earlier: the mirror image, by the store's other call.
+// A lot is to be extracted on a day or earlier.
 pub fn not_after<S: WindowStore>(
     slip: &Closed,
     store: &mut S,
@@ -39,74 +38,73 @@ pub fn not_after<S: WindowStore>(
     lot: usize,
     day: u32,
 ) -> Result<(), SheetFault>
-    ensures asks { NotAfter lot day slip.now book.now (S.WindowStore.windows store.old) result (S.WindowStore.windows store.new) }
-    ensures still { S.WindowStore.windows store.new ≡ S.WindowStore.windows store.old → store.new ≡ store.old }
-    ensures moved { (S.WindowStore.windows store.new ≢ S.WindowStore.windows store.old) → S.WindowStore.footing store.new ≡ S.WindowStore.lowered store.old lot day }
+    ensures asks { NotAfter lot day slip.now.lots slip.now.rules book.now (S.WindowStore.windows store.old) result (S.WindowStore.windows store.new) }
+    ensures reach { Onward (S.WindowStore.reached store.old) (S.WindowStore.reached store.new) (S.WindowStore.windows store.new) }
+    ensures memory { S.WindowStore.memory store.new ≡ S.WindowStore.reached store.old (S.WindowStore.windows store.new) }
     ensures framed { S.WindowStore.frame store.new ≡ S.WindowStore.frame store.old }
 {
-    may_ask(slip, book, store, day)?;
-    answered(lot, store.lower(lot, day))
+    ask_days(slip, store, book, lot, HalfLine::UpTo(day))
 }
 
-// What a house is told of a store's answer about a lot.
-// No `From`: the lot is the caller's.
-fn answered(lot: usize, answer: Result<(), StoreFault>) -> Result<(), SheetFault>
-    ensures { result ≡ told lot answer }
+// A lot is to be extracted on a day of a half-line.
+fn ask_days<S: WindowStore>(
+    slip: &Closed,
+    store: &mut S,
+    book: &Book,
+    lot: usize,
+    days: HalfLine,
+) -> Result<(), SheetFault>
+    ensures asks { AsksDays lot days slip.now.lots slip.now.rules book.now (S.WindowStore.windows store.old) result (S.WindowStore.windows store.new) }
+    ensures reach { Onward (S.WindowStore.reached store.old) (S.WindowStore.reached store.new) (S.WindowStore.windows store.new) }
+    ensures memory { S.WindowStore.memory store.new ≡ S.WindowStore.reached store.old (S.WindowStore.windows store.new) }
+    ensures framed { S.WindowStore.frame store.new ≡ S.WindowStore.frame store.old }
 {
-    about_lot(lot, answer)?;
+    all_agree(slip, book, store)?;
+    let (HalfLine::From(end) | HalfLine::UpTo(end)) = days;
+    if end > LAST_DAY {
+        return Err(SheetFault::NoSuchDay);
+    }
+    about_lot(lot, store.trim(lot, days))?;
     Ok(())
 }
 
 // A rule's stretch is to take this many different days or more.
 pub fn at_least(slip: &Closed, book: &mut Book, rule: usize, number: u32) -> Result<(), SheetFault>
-    ensures { AtLeast rule number slip.now book.old result book.new }
+    ensures { AtLeast rule number slip.now.lots slip.now.rules book.old result book.new }
 {
-    let count = count_of(slip, book, rule)?;
-    let floor = count.floor().max(number);
-    let narrowed = CountWindow::new(floor, count.ceiling()).ok_or(SheetFault::NoCountLeft(rule))?;
-    book.narrow(rule, narrowed);
-    Ok(())
+    ask_counts(slip, book, rule, HalfLine::From(number))
 }
 
-// A rule's stretch is to take this many different days or fewer: the mirror image, by the other end of the count window.
+// A rule's stretch is to take this many different days or fewer.
 pub fn at_most(slip: &Closed, book: &mut Book, rule: usize, number: u32) -> Result<(), SheetFault>
-    ensures { AtMost rule number slip.now book.old result book.new }
+    ensures { AtMost rule number slip.now.lots slip.now.rules book.old result book.new }
 {
-    let count = count_of(slip, book, rule)?;
-    let ceiling = count.ceiling().min(number);
-    let narrowed = CountWindow::new(count.floor(), ceiling).ok_or(SheetFault::NoCountLeft(rule))?;
-    book.narrow(rule, narrowed);
-    Ok(())
+    ask_counts(slip, book, rule, HalfLine::UpTo(number))
 }
 
-// The count window of a rule that an ask is about.
-fn count_of(slip: &Closed, book: &Book, rule: usize) -> Result<CountWindow, SheetFault>
-    ensures { MatchResult result (λ count. Agree slip.now.lots slip.now.rules book.now × (rule < length (rules_of book.now)) × (count.floor ≡ (rule_at (rules_of book.now) rule).floor) × (count.ceiling ≡ (rule_at (rules_of book.now) rule).ceiling)) (λ e. ((Agree slip.now.lots slip.now.rules book.now → ⊥) × (e ≡ Mismatch)) ⊎ (Agree slip.now.lots slip.now.rules book.now × (length (rules_of book.now) ≤ rule) × (e ≡ NoSuchRule rule))) }
+// A rule's stretch is to take a number of different days that lies in a half-line.
+fn ask_counts(
+    slip: &Closed,
+    book: &mut Book,
+    rule: usize,
+    counts: HalfLine,
+) -> Result<(), SheetFault>
+    ensures { AsksCounts rule counts slip.now.lots slip.now.rules book.old result book.new }
 {
     book.agree(slip.lots, slip.rules)?;
-    let found = book.rule(rule).ok_or(SheetFault::NoSuchRule(rule))?;
-    Ok(found.count)
-}
-
-// Refuses an ask for a day where slip, book and store do not agree, and one for a day above 9,999.
-fn may_ask<S: WindowStore>(
-    slip: &Closed,
-    book: &Book,
-    store: &S,
-    day: u32,
-) -> Result<(), SheetFault>
-    ensures { MatchResult result (λ _. AllAgree slip.now book.now (S.WindowStore.windows store.now) × (day ≤ 9999)) (λ e. ((AllAgree slip.now book.now (S.WindowStore.windows store.now) → ⊥) × (e ≡ Mismatch)) ⊎ (AllAgree slip.now book.now (S.WindowStore.windows store.now) × (9999 < day) × (e ≡ NoSuchDay))) }
-{
-    all_agree(slip, book, store)?;
-    if day > LAST_DAY {
-        return Err(SheetFault::NoSuchDay);
-    }
+    let count = book.rule(rule).ok_or(SheetFault::NoSuchRule(rule))?.count;
+    let (floor, ceiling) = match counts {
+        HalfLine::From(number) => (count.floor().max(number), count.ceiling()),
+        HalfLine::UpTo(number) => (count.floor(), count.ceiling().min(number)),
+    };
+    let tightened = CountWindow::new(floor, ceiling).ok_or(SheetFault::NoCountLeft(rule))?;
+    book.narrow(rule, tightened);
     Ok(())
 }
 
 // Refuses a slip and a book that differ in lots or in rules, and a store with another number of lots.
 pub fn all_agree<S: WindowStore>(slip: &Closed, book: &Book, store: &S) -> Result<(), SheetFault>
-    ensures { MatchResult result (λ _. AllAgree slip.now book.now (S.WindowStore.windows store.now)) (λ e. (e ≡ Mismatch) × (AllAgree slip.now book.now (S.WindowStore.windows store.now) → ⊥)) }
+    ensures { MatchResult result (λ _. AllAgree slip.now.lots slip.now.rules book.now (S.WindowStore.windows store.now)) (λ e. (e ≡ Mismatch) × (AllAgree slip.now.lots slip.now.rules book.now (S.WindowStore.windows store.now) → ⊥)) }
 {
     book.agree(slip.lots, slip.rules)?;
     if slip.lots != store.lots() {

@@ -3,9 +3,9 @@ ghost use Rattle.std.specs.Prelude.{◌≡◌, Some};
 ghost use Rattle.sheet.specs.Faults.{fault_text, number_of, number_of_store, of_season, place_of, at_lot};
 ghost use Rattle.sheet.specs.declared.fault.SheetFault.TheVariants.{Store};
 
+use nvalue::season::SeasonFault;
 use std::fmt;
 use store::fault::StoreFault;
-use store::season::SeasonFault;
 
 // The store's own refusal, whole, with the lot that was named.
 #[derive(Clone, Copy, PartialEq, Eq, Debug)]
