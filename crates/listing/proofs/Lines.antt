@@ -1,8 +1,7 @@
 -- The lines of a plan, one more at the end.
 use Rattle.std.proofs.Common.{◌≡◌, ℕ, suc, ◌+◌, ◌<◌, ◌≤◌, List, [], ◌∷◌, ◌++◌, length, get_or, take, drop, sym, refl, ap, ◌∙◌, arith}
 use Rattle.std.proofs.lemmas.List.{append_assoc, append-nil, length-append, length-take-le, take-append-drop, take_more}
-use Rattle.nvalue.specs.Nvalue.{nvalue}
-use Rattle.listing.specs.Text.{count_line, lines_from, list_of, lot_line}
+use Rattle.listing.specs.Text.{lines_from, lot_line}
 
 pub lines_none : (lot : ℕ) → lines_from lot [] ≡ []
 unfolding lines_from
@@ -37,10 +36,3 @@ lines_front days i b =
 -- so there is room for the line of the lot i
 pub lines_room : (days : List ℕ) (i : ℕ) → i < length days → length (lines_from 0 (take i days)) + length (lot_line i (get_or days i 0)) ≤ length (lines_from 0 days)
 lines_room days i b = omega (arith, lines_more_length days i b, lines_front days (i + 1) (omega arith))
-
-pub list_is : (days : List ℕ) → list_of days ≡ lines_from 0 days ++ count_line (nvalue days)
-unfolding list_of
-list_is days = refl
-
-pub list_length : (days : List ℕ) → length (list_of days) ≡ length (lines_from 0 days) + length (count_line (nvalue days))
-list_length days = ap length (list_is days) ∙ length-append (lines_from 0 days) (count_line (nvalue days))

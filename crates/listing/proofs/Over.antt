@@ -2,7 +2,7 @@
 use Rattle.std.proofs.Common.{◌≡◌, ℕ, ◌-◌, List, [], ◌++◌, length, take, drop, sym, ap, ◌∙◌, arith}
 use borrow.Rule.Slice.PartMut.{post_of, put_mid}
 use Rattle.std.proofs.lemmas.List.{append_assoc, append-nil, drop_all, drop_at, drop-drop, length-append, length-drop, take_at, take_rest}
-use Rattle.listing.specs.Text.{over}
+use Rattle.store.specs.Over.{over}
 
 -- `mid` is what stands after the first text, `rest` what the lent rest of it holds after the second
 pub over_then :

@@ -1,15 +1,28 @@
--- What listing a plan gives, case by case in the order of its checks; a refusal writes nothing.
-use Rattle.std.specs.Prelude.{◌≡◌, ℕ, ◌<◌, ◌≤◌, List, ◌++◌, length, drop, Ok, Err, Result}
+-- What listing a plan gives, and writing the line of a refusal. A refusal writes nothing.
+use Rattle.std.specs.Prelude.{◌≡◌, ℕ, ◌<◌, List, [], ◌∷◌, length, Result}
+use Rattle.store.specs.Checks.{Checked, refuse}
+use Rattle.store.specs.Over.{over}
 use Rattle.listing.specs.declared.fault.ListFault.{ListFault}
-use Rattle.listing.specs.declared.fault.ListFault.TheVariants as fault
+use Rattle.listing.specs.declared.fault.ListFault.TheVariants.{ShortBytes, TooManyLots}
 use Rattle.listing.specs.Text.{list_of, refusal_line}
 
-pub data Lists (days : List ℕ) (was : List ℕ) (r : Result ℕ ListFault) (is : List ℕ) : Type 0 where
-  too_many_lots : 256 < length days → r ≡ Err fault.TooManyLots → is ≡ was → Lists days was r is
-  short_bytes : length days ≤ 256 → length was < length (list_of days) → r ≡ Err fault.ShortBytes → is ≡ was → Lists days was r is
-  listed : length days ≤ 256 → length (list_of days) ≤ length was → r ≡ Ok (length (list_of days)) → is ≡ list_of days ++ drop (length (list_of days)) was → Lists days was r is
+-- the memory has so many bytes, and the text more
+abbrev pub fits_check : List ℕ → ℕ → ListFault → Type 0
+fits_check text room = refuse ShortBytes (room < length text)
 
--- What writing the line of a refusal gives.
-pub data WritesRefusal (number place : ℕ) (was : List ℕ) (r : Result ℕ ListFault) (is : List ℕ) : Type 0 where
-  short_bytes : length was < length (refusal_line number place) → r ≡ Err fault.ShortBytes → is ≡ was → WritesRefusal number place was r is
-  written : length (refusal_line number place) ≤ length was → r ≡ Ok (length (refusal_line number place)) → is ≡ refusal_line number place ++ drop (length (refusal_line number place)) was → WritesRefusal number place was r is
+abbrev pub list_checks : List ℕ → ℕ → List (ListFault → Type 0)
+list_checks days room = refuse TooManyLots (256 < length days) ∷ fits_check (list_of days) room ∷ []
+
+abbrev pub refusal_checks : ℕ → ℕ → ℕ → List (ListFault → Type 0)
+refusal_checks number place room = fits_check (refusal_line number place) room ∷ []
+
+-- the text stands over the first bytes, and the answer is its length
+abbrev pub Written : List ℕ → List ℕ → List ℕ → ℕ → Type 0
+Written text was is n = (n ≡ length text) × (is ≡ over text was)
+
+abbrev pub Lists : List ℕ → List ℕ → Result ℕ ListFault → List ℕ → Type 0
+Lists days was r is = Checked (list_checks days (length was)) r (Written (list_of days) was is) (is ≡ was)
+
+abbrev pub WritesRefusal : ℕ → ℕ → List ℕ → Result ℕ ListFault → List ℕ → Type 0
+WritesRefusal number place was r is =
+    Checked (refusal_checks number place (length was)) r (Written (refusal_line number place) was is) (is ≡ was)

@@ -1,8 +1,9 @@
 -- The text of a plan: one line for each lot, then the number of different days. The byte 10 ends a line.
-use Rattle.std.specs.Prelude.{ℕ, suc, List, [], ◌∷◌, ◌++◌, length, drop, codes, decimal}
+use Rattle.std.specs.Prelude.{ℕ, suc, List, [], ◌∷◌, ◌++◌, codes, decimal}
+use Rattle.store.specs.Texts.{refused_text}
 use Rattle.nvalue.specs.Nvalue.{nvalue}
 
--- a word, with its space, and a number: `decimal` is its shortest decimal form, as the laws say
+-- a word, with its space, and a number: `decimal` is its shortest decimal form, as the law on it says
 abbrev pub entry : List ℕ → ℕ → List ℕ
 entry word n = word ++ decimal n
 
@@ -20,7 +21,7 @@ count_line count = entry (codes "days ") count ++ 10 ∷ []
 
 -- `refused R place P`
 abbrev pub refusal_line : ℕ → ℕ → List ℕ
-refusal_line number place = pair_line (codes "refused ") number (codes " place ") place
+refusal_line number place = refused_text number place ++ 10 ∷ []
 
 -- the lines of the lots, of which the first has this number
 unfoldable pub lines_from : ℕ → List ℕ → List ℕ
@@ -28,9 +29,5 @@ lines_from lot [] = []
 lines_from lot (day ∷ days) = lot_line lot day ++ lines_from (suc lot) days
 
 -- the whole text
-unfoldable pub list_of : List ℕ → List ℕ
+abbrev pub list_of : List ℕ → List ℕ
 list_of days = lines_from 0 days ++ count_line (nvalue days)
-
--- a text over the first bytes; the bytes past it stay
-abbrev pub over : List ℕ → List ℕ → List ℕ
-over text was = text ++ drop (length text) was

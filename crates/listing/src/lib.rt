@@ -2,10 +2,7 @@
 #![tactic(auto)]
 
 pub mod fault;
-pub mod laws;
 mod line;
 pub mod list;
 mod measure;
-pub mod number;
 pub mod refusal;
-mod text;

@@ -1,9 +1,11 @@
-// Lines. They go into bytes that the caller lends, where `write!` would want a writer of its own and its error: each writer writes to the front of the bytes that it is lent, lends the rest on, and answers how many bytes it wrote; the bytes past them stay.
+// Lines, each written to the front of the bytes that it is lent; it lends the rest on, and answers how many it wrote.
+// `write!` would want a writer of its own, and its error.
 ghost use Rattle.std.specs.Prelude.{◌≡◌, ◌+◌, ◌≤◌, length, decimal};
-ghost use Rattle.listing.specs.Text.{count_line, entry, lot_line, over, pair_line};
+ghost use Rattle.listing.specs.Text.{count_line, entry, lot_line, pair_line};
+ghost use Rattle.store.specs.Over.{over};
 
-use crate::number::write_number;
-use crate::text::write_text;
+use decimal::number::write_number;
+use decimal::text::write_text;
 
 // A word and a number.
 fn write_entry(word: &[u8], n: usize, out: &mut [u8]) -> usize

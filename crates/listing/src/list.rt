@@ -1,7 +1,8 @@
 // Listing a plan: its days as text.
 ghost use Rattle.std.specs.Prelude.{◌≡◌, ◌≤◌, length};
 ghost use Rattle.listing.specs.Lists.{Lists};
-ghost use Rattle.listing.specs.Text.{lines_from, over};
+ghost use Rattle.listing.specs.Text.{lines_from};
+ghost use Rattle.store.specs.Over.{over};
 
 use crate::fault::ListFault;
 use crate::line::{write_count, write_lot};

@@ -1,13 +1,15 @@
 // How many bytes each line takes, and all lines of a plan: known before anything is written.
-ghost use Rattle.std.specs.Prelude.{◌≡◌, ◌+◌, ◌≤◌, length};
-ghost use Rattle.listing.specs.Text.{count_line, lines_from, lot_line, refusal_line};
+ghost use Rattle.std.specs.Prelude.{◌≡◌, ◌≤◌, length};
+ghost use Rattle.nvalue.specs.Nvalue.{nvalue};
+ghost use Rattle.listing.specs.Text.{lines_from, list_of, lot_line, refusal_line};
 
-use crate::number::digits;
+use decimal::number::digits;
 
 // The whole text of a plan that has so many different days.
 pub fn list_length(days: &[u32], count: usize) -> usize
-    requires { length days.now ≤ 256 }
-    ensures { result ≡ length (lines_from 0 days.now) + length (count_line count) }
+    requires few { length days.now ≤ 256 }
+    requires count { count ≡ nvalue days.now }
+    ensures { result ≡ length (list_of days.now) }
 {
     lines_length(days) + b"days ".len() + digits(count) + 1
 }

@@ -5,7 +5,7 @@ use crate::fault::ListFault;
 use crate::line::write_pair;
 use crate::measure::refusal_length;
 
-// Writes the number of a refusal and the place that it names to the first bytes, and answers how many they are; the bytes past them stay.
+// Writes the line to the first bytes, and answers how many they are; the bytes past them stay.
 pub fn write_refusal(number: u32, place: usize, out: &mut [u8]) -> Result<usize, ListFault>
     ensures { WritesRefusal number place out.old result out.new }
 {

@@ -1,7 +1,7 @@
 // Plans as text, byte for byte; a `#` is a byte that the caller had there.
+use decimal::number::digits;
 use listing::fault::ListFault;
 use listing::list::list;
-use listing::number::digits;
 use std::test::Fail;
 
 #[test]
@@ -97,6 +97,16 @@ fn the_numbers_of_refusals(rt: HostRuntime) {
         ),
         (20, 7)
     );
+}
+
+#[test]
+fn a_refusal_prints_its_number_and_place_0(rt: HostRuntime) -> Result<(), Fail> {
+    let many = format!(in rt.alloc(); "{}", ListFault::TooManyLots)?;
+    let short = format!(in rt.alloc(); "{}", ListFault::ShortBytes)?;
+    assert_eq!(rt; many.as_str(), "refused 20 place 0");
+    assert_eq!(rt; short.as_str(), "refused 7 place 0");
+    assert_eq!(rt; ListFault::TooManyLots.place(), 0);
+    Ok(())
 }
 
 #[test]

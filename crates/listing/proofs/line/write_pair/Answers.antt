@@ -1,7 +1,8 @@
 use Rattle.std.proofs.Common.{◌≡◌, ◌+◌, ◌-◌, [], ◌∷◌, ◌++◌, length, decimal, arith}
 use borrow.Rule.Slice.PartMut.{put_mid}
 use Rattle.std.proofs.lemmas.List.{length-append}
-use Rattle.listing.specs.Text.{entry, over}
+use Rattle.listing.specs.Text.{entry}
+use Rattle.store.specs.Over.{over}
 use Rattle.listing.proofs.Over.{over_then}
 use Rattle.listing.proofs.line.write_pair.Goals as goal
 

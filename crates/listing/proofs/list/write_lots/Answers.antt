@@ -1,5 +1,6 @@
 use Rattle.std.proofs.Common.{length, get_or, take, sym, ap, ◌∙◌, arith}
-use Rattle.listing.specs.Text.{lines_from, lot_line, over}
+use Rattle.listing.specs.Text.{lines_from, lot_line}
+use Rattle.store.specs.Over.{over}
 use Rattle.listing.proofs.Lines.{lines_more, lines_more_length, lines_none, lines_room}
 use Rattle.listing.proofs.Over.{lent_length, over_then}
 use Rattle.listing.proofs.list.write_lots.Goals as goal

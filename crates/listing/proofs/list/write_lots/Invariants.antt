@@ -1,5 +1,6 @@
 use Rattle.std.proofs.Common.{◌≡◌, ◌≤◌, length, take}
-use Rattle.listing.specs.Text.{lines_from, over}
+use Rattle.listing.specs.Text.{lines_from}
+use Rattle.store.specs.Over.{over}
 use Rattle.listing.proofs.list.write_lots.Given as goal
 
 abbrev pub invariant-loop-lot : goal.invariant-loop-lot
