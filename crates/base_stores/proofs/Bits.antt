@@ -1,16 +1,14 @@
 -- Laws of day masks: the ends that are read off a mask are its outermost set bits, and a filled mask has just the bits that it should.
-use Rattle.std.proofs.Common.{◌≡◌, ℕ, zero, suc, ◌+◌, ◌-◌, ◌*◌, ◌/◌, ◌%◌, ◌^◌, ◌<◌, ◌≤◌, List, map, length, get_or, set, sym, refl, ap, ◌∙◌, subst, ap₂, inl, inr, lt_of_lt_of_le, mul_assoc, pow-suc, div-one, arith, lit<, pow_pos, pow_mono, pow-add, shr-shr}
+use Rattle.std.proofs.Common.{◌≡◌, ℕ, zero, suc, ◌+◌, ◌-◌, ◌*◌, ◌/◌, ◌%◌, ◌^◌, ◌<◌, ◌≤◌, sym, refl, ap, ◌∙◌, ap₂, inl, inr, lt_of_lt_of_le, mul_assoc, pow-suc, div-one, arith, lit<, pow_pos, pow_mono, pow-add, shr-shr}
 use native.Mathlib.Nat.{div-eq_of_lt}
 use lib.Arith.{digits_mod}
 use lib.Bits.{shifted_even}
 use lib.Count.{count_leading_zeros, count_trailing_zeros, under, leading_top}
 use lib.Pow.{high_ones, ones_split, pow-lt, shl-shr, high as high_digit, ones_lt}
-use Rattle.std.proofs.lemmas.List.{get_or-map, length-map, map-set}
 use Rattle.std.proofs.lemmas.Bool.{cases_order}
 use Rattle.store.specs.declared.window.Window.{Window}
 use Rattle.base_stores.specs.Masks.{bit, window_of_mask, filled, Spans, Fills}
-use Rattle.store.specs.Windows.{window, window_at}
-use Rattle.store.proofs.Verdicts.{Rises, Falls}
+use Rattle.store.specs.Windows.{window}
 
 clash : {n : ℕ} → n ≡ 1 → n ≡ 0 → ⊥
 clash a b = omega arith
@@ -138,35 +136,3 @@ ones_shifted high b =
     ap (λ x. (2 ^ x - 1) / 2 ^ (63 - high)) e
     ∙ ap (λ x. x / 2 ^ (63 - high)) (ones_split (suc high) (63 - high))
     ∙ high_digit (2 ^ suc high - 1) (63 - high) (ones_lt (63 - high))
-
-module _ (masks : List ℕ) (p day : ℕ) where
-  mask_at : p < length masks → window_at (map window_of_mask masks) p ≡ window_of_mask (get_or masks p 0)
-  mask_at b = get_or-map window_of_mask masks p 0 (window 0 0) b
-
-  pub mask_there : p < length (map window_of_mask masks) → p < length masks
-  mask_there b = omega (arith, length-map masks window_of_mask)
-
-  -- the ends as they are read off the mask
-  pub mask_rises : Rises (map window_of_mask masks) p day → day ≤ (window_of_mask (get_or masks p 0)).high
-  mask_rises m = subst (λ w. day ≤ w.high) (mask_at (mask_there m.there)) m.within
-
-  pub mask_falls : Falls (map window_of_mask masks) p day → ((window_of_mask (get_or masks p 0)).low ≤ day) × (day ≤ 63)
-  mask_falls m =
-      let e = mask_at (mask_there m.there) in
-      let h : day < (window_of_mask (get_or masks p 0)).high = subst (λ w. day < w.high) e m.below in
-      (subst (λ w. w.low ≤ day) e m.within, omega arith)
-
-  pub mask_raise : Rises (map window_of_mask masks) p day
-      → map window_of_mask (set masks p (filled day (window_of_mask (get_or masks p 0)).high)) ≡ set (map window_of_mask masks) p (window day (window_at (map window_of_mask masks) p).high)
-  mask_raise m =
-      let e = mask_at (mask_there m.there) in
-      map-set window_of_mask masks p _
-      ∙ ap (set (map window_of_mask masks) p) (filled_window day _ (mask_rises m) (omega arith) ∙ ap (window day) (sym (ap (λ w. w.high) e)))
-
-  pub mask_lower : Falls (map window_of_mask masks) p day
-      → map window_of_mask (set masks p (filled (window_of_mask (get_or masks p 0)).low day)) ≡ set (map window_of_mask masks) p (window (window_at (map window_of_mask masks) p).low day)
-  mask_lower m =
-      let e = mask_at (mask_there m.there) in
-      let f = mask_falls m in
-      map-set window_of_mask masks p _
-      ∙ ap (set (map window_of_mask masks) p) (filled_window _ day f.0 f.1 ∙ ap (λ l. window l day) (sym (ap (λ w. w.low) e)))

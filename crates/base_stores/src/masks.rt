@@ -1,77 +1,78 @@
-// The mask store: a lent 64-bit number for each lot, with bit d set for day d.
-ghost use Rattle.std.specs.Prelude.{◌≡◌, ℕ, ◌<◌, ◌≤◌, List, map, set, slice_index, slice_set};
-ghost use Rattle.base_stores.specs.Masks.{window_of_mask, filled, Spans, Fills};
+// The mask store: a lent 64-bit number for each lot, in which bit d stands for day d.
+ghost use Rattle.std.specs.Prelude.{◌≡◌, ℕ, ◌<◌, ◌≤◌, List, map};
+ghost use Rattle.base_stores.specs.Masks.{window_of_mask, filled, kept, Spans, Fills};
+ghost use Rattle.store.proofs.Each.{each_same, where_window_same};
+ghost use Rattle.store.specs.Each.{each};
+ghost use Rattle.store.specs.Windows.{window, found};
 
 use store::fault::StoreFault;
-use store::step::{Step, lowering, raising};
+use store::half_line::HalfLine;
+use store::step::{Step, judge};
 use store::store::WindowStore;
 use store::window::Window;
 
-// A type beside the word store, though both lend a slice: what its elements mean is all that makes a store.
+// Not one generic type with the word store: that both lend a slice is all that they share.
 #[derive(Drop)]
 pub struct MaskStore<'a> {
     masks: &'a mut [u64],
 }
 
 impl<'a> MaskStore<'a> {
-    // A store on these masks, one for each lot.
+    // The windows that these masks show, one for each lot.
     pub fn new(masks: &'a mut [u64]) -> MaskStore<'a>
         ensures holds { result.masks.now ≡ masks.old }
         ensures lent { result.masks.ghost_name ≡ masks.entry.ghost_name }
     {
         MaskStore { masks }
     }
+
+    // A lot's window; absent past the last mask.
+    fn window(&self, place: usize) -> Option<Window>
+        ensures value { result ≡ found (map window_of_mask self.now.masks.now) place }
+    {
+        Some(mask_window(*self.masks.get(place)?))
+    }
 }
 
 impl WindowStore for MaskStore<'_> {
     ghost windows = { λ s. map window_of_mask s.masks.now };
 
-    ghost Footing = { List ℕ };
+    ghost memory = { λ s. s.masks.now };
 
-    ghost footing = { λ s. s.masks.now };
-
-    ghost raised = { λ s place day. slice_set s.masks.now place (filled day (window_of_mask (slice_index s.masks.now place)).high) };
-
-    ghost lowered = { λ s place day. slice_set s.masks.now place (filled (window_of_mask (slice_index s.masks.now place)).low day) };
+    ghost reached = { λ s ws. each kept s.masks.now ws };
 
     ghost Frame = { ℕ };
 
     ghost frame = { λ s. s.masks.ghost_name };
+
+    ghost here = { λ s. each_same window_of_mask kept (λ mask. where_window_same (window_of_mask mask) mask _) s.masks.now };
 
     fn lots(&self) -> usize {
         self.masks.len()
     }
 
     fn low(&self, place: usize) -> Option<u32> {
-        self.masks.get(place).map(|mask| mask_window(*mask).low)
+        Some(self.window(place)?.low)
     }
 
     fn high(&self, place: usize) -> Option<u32> {
-        self.masks.get(place).map(|mask| mask_window(*mask).high)
+        Some(self.window(place)?.high)
     }
 
-    fn raise(&mut self, place: usize, day: u32) -> Result<(), StoreFault> {
-        match raising(self.low(place), self.high(place), day)? {
+    fn trim(&mut self, place: usize, days: HalfLine) -> Result<(), StoreFault> {
+        match judge(self.window(place), days)? {
             Step::Stays => {}
-            Step::Moves => self.masks[place] = fill(day, mask_window(self.masks[place]).high),
-        }
-        Ok(())
-    }
-
-    fn lower(&mut self, place: usize, day: u32) -> Result<(), StoreFault> {
-        match lowering(self.low(place), self.high(place), day)? {
-            Step::Stays => {}
-            Step::Moves => self.masks[place] = fill(mask_window(self.masks[place]).low, day),
+            Step::Moves(window) => self.masks[place] = fill(window),
         }
         Ok(())
     }
 }
 
-// The outermost set bits of a mask; an empty mask has the empty window [64, 0].
+// From the lowest set bit of a mask to the highest.
 fn mask_window(mask: u64) -> Window
     ensures value { result ≡ window_of_mask mask }
     ensures spans { 0 < mask → Spans mask result }
-    ensures top { result.high ≤ 63 }
+    ensures bare { mask ≡ 0 → result ≡ window 64 0 }
 {
     Window {
         low: mask.trailing_zeros(),
@@ -79,12 +80,12 @@ fn mask_window(mask: u64) -> Window
     }
 }
 
-// All bits from low to high.
-fn fill(low: u32, high: u32) -> u64
-    requires ordered { low ≤ high }
-    requires within { high ≤ 63 }
-    ensures value { result ≡ filled low high }
-    ensures fills { Fills result low high }
+// The mask whose set bits are just the days of a window.
+fn fill(window: Window) -> u64
+    requires ordered { window.low ≤ window.high }
+    requires within { window.high ≤ 63 }
+    ensures value { result ≡ filled window.low window.high }
+    ensures fills { Fills result window.low window.high }
 {
-    (u64::MAX >> (63 - high)) - ((1 << low) - 1)
+    (u64::MAX >> (63 - window.high)) - ((1 << window.low) - 1)
 }

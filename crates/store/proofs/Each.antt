@@ -11,13 +11,6 @@ module _ {A : Type 0} (shown : A → Window) (f : A → Window → A) where
   each_same same [] = refl
   each_same same (a ∷ rest) = ap₂ (λ b bs. b ∷ bs) (same a) (each_same same rest)
 
-  -- one item that is as its window says
-  pub each_set : ((a : A) → f a (shown a) ≡ a) → (items : List A) (p : ℕ) (b d : A) → f (get_or items p d) (shown b) ≡ b
-      → each f items (map shown (set items p b)) ≡ set items p b
-  each_set same [] p b d e = refl
-  each_set same (a ∷ rest) zero b d e = ap₂ (λ b bs. b ∷ bs) e (each_same same rest)
-  each_set same (a ∷ rest) (suc p) b d e = ap₂ (λ b bs. b ∷ bs) (same a) (each_set same rest p b d e)
-
   -- what comes later is the same from the one item as from that which it was
   pub each_reach : (items : List A) (p : ℕ) (b d : A) → ((u : Window) → Narrower u (shown b) → f b u ≡ f (get_or items p d) u)
       → (ws : List Window) → Narrowed ws (map shown (set items p b)) → each f (set items p b) ws ≡ each f items ws

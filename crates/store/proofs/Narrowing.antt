@@ -1,11 +1,13 @@
 -- Laws of windows that lie inside others.
 use Rattle.std.proofs.Common.{◌≡◌, ℕ, zero, suc, ◌≤◌, List, [], ◌∷◌, set, Result, inl, inr, sym, ◌∙◌, subst, arith}
 use Rattle.std.proofs.lemmas.Bool.{cases_lt}
+use Rattle.std.proofs.lemmas.Bool.Decides.{nat_tests}
 use Rattle.store.specs.declared.fault.StoreFault.{StoreFault}
 use Rattle.store.specs.declared.half_line.HalfLine.{HalfLine}
 use Rattle.store.specs.declared.half_line.HalfLine.TheVariants.{From, UpTo}
 use Rattle.store.specs.declared.window.Window.{Window}
-use Rattle.store.specs.Windows.{window_at, trimmed, Within, Trims, no_such_lot, stays, would_empty, moves, Narrower, Narrowed, Onward}
+use Rattle.store.specs.Each.{where_window}
+use Rattle.store.specs.Windows.{window_at, trimmed, Within, Misses, Trims, no_such_lot, stays, would_empty, moves, Narrower, Narrowed, Onward}
 
 order_cases : (a b : ℕ) → (a ≤ b → ⊥) → b ≤ a
 order_cases a b n = elim (cases_lt b a) [ inl l ↦ omega arith | inr g ↦ absurd (n g) ]
@@ -30,6 +32,16 @@ narrowed_set (w ∷ ws) (suc p) v n = ((omega arith, omega arith), narrowed_set 
 pub trimmed_narrower : (days : HalfLine) (w : Window) → (Within days w → ⊥) → Narrower (trimmed days w) w
 trimmed_narrower (From day) w s = (order_cases day w.low s, omega arith)
 trimmed_narrower (UpTo day) w s = (omega arith, order_cases w.high day s)
+
+-- nor cut off whole by one that it meets
+pub trimmed_ordered : (days : HalfLine) (w : Window) → (Misses days w → ⊥) → (trimmed days w).low ≤ (trimmed days w).high
+trimmed_ordered (From day) w m = grind arith
+trimmed_ordered (UpTo day) w m = grind arith
+
+-- and is another window after that
+pub trimmed_differs : {A : Type 0} (days : HalfLine) (w u : Window) → (Within days w → ⊥) → Narrower u (trimmed days w) → (a b : A) → where_window u w a b ≡ b
+trimmed_differs (From day) w u s n a b = grind (arith, nat_tests)
+trimmed_differs (UpTo day) w u s n a b = grind (arith, nat_tests)
 
 -- any call leaves windows inside those before it
 pub trims_narrow : (ws is : List Window) (p : ℕ) (days : HalfLine) (r : Result (Unit {0}) StoreFault) → Trims ws p days r is → Narrowed is ws
