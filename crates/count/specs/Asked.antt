@@ -5,28 +5,29 @@ use Rattle.std.specs.List.{AllByRecursion}
 use Rattle.store.specs.declared.window.Window.{Window}
 use Rattle.store.specs.Checks.{Checked, refuse}
 use Rattle.store.specs.Pairs.{paired}
-use Rattle.nvalue.specs.Choices.{NoStretch, part}
+use Rattle.nvalue.specs.Choices.{part}
 use Rattle.nvalue.specs.Seasons.{lot_checks}
+use Rattle.nvalue.specs.Stretches.{LiesWithin}
+use Rattle.nvalue.specs.declared.stretch.Stretch.{Stretch}
 use Rattle.count.specs.declared.fault.CountFault.{CountFault}
 use Rattle.count.specs.declared.fault.CountFault.TheVariants.{ShortWork, TooManyLots, FaultyWindow, NoSuchStretch, ShortAnswer}
 use Rattle.extremes.specs.Shown.{Least, Greatest}
 use Rattle.extremes.specs.declared.matching.Most.{Most}
 
 -- that there is such a stretch, and two answer words for each of its lots
-abbrev pub stretch_checks : ℕ → ℕ → ℕ → ℕ → List (CountFault → Type 0)
-stretch_checks lots first len room =
-    refuse NoSuchStretch (NoStretch lots first len)
-    ∷ refuse ShortAnswer (room < 2 * len)
+abbrev pub stretch_checks : ℕ → Stretch → ℕ → List (CountFault → Type 0)
+stretch_checks lots s room =
+    refuse NoSuchStretch (LiesWithin lots s → ⊥)
+    ∷ refuse ShortAnswer (room < 2 * s.length)
     ∷ []
 
 -- the checks of a question that has its working words
-abbrev pub lent_checks : List Window → ℕ → ℕ → ℕ → List (CountFault → Type 0)
-lent_checks ws first len room =
-    lot_checks TooManyLots FaultyWindow ws ++ stretch_checks (length ws) first len room
+abbrev pub lent_checks : List Window → Stretch → ℕ → List (CountFault → Type 0)
+lent_checks ws s room = lot_checks TooManyLots FaultyWindow ws ++ stretch_checks (length ws) s room
 
 -- all checks of a question, in their order
-abbrev pub count_checks : ℕ → List Window → ℕ → ℕ → ℕ → List (CountFault → Type 0)
-count_checks work ws first len room = refuse ShortWork (work < 4096) ∷ lent_checks ws first len room
+abbrev pub count_checks : ℕ → List Window → Stretch → ℕ → List (CountFault → Type 0)
+count_checks work ws s room = refuse ShortWork (work < 4096) ∷ lent_checks ws s room
 
 -- The answer words hold a choice for the windows ws of a stretch, one word a lot, then m lot numbers; `first` is the
 -- number of the stretch's first lot.
@@ -45,9 +46,9 @@ pub record MostAnswer (ws : List Window) (was is : List ℕ) (m s : ℕ) : Type 
 abbrev pub MostShown : List Window → ℕ → List ℕ → List ℕ → Most → Type 0
 MostShown ws first was is m = MostAnswer ws was is m.count m.runs
 
--- A question about the stretch of `len` lots from the lot `first` on answers `r`, and the answer words are `is` in
--- place of `was`: what it answers holds of the windows of the stretch; refused, the answer words stay.
+-- A question about a stretch that has these checks answers `r`, and the answer words are `is` in place of `was`: what
+-- it answers holds of the windows of the stretch; refused, the answer words stay.
 abbrev pub Asks : {C : Type 0} → (List Window → ℕ → List ℕ → List ℕ → C → Type 0) → List (CountFault → Type 0)
-    → List Window → ℕ → ℕ → List ℕ → Result C CountFault → List ℕ → Type 0
-Asks Answers checks ws first len was r is =
-    Checked checks r (λ m. Answers (part ws first len) first was is m) (is ≡ was)
+    → List Window → Stretch → List ℕ → Result C CountFault → List ℕ → Type 0
+Asks Answers checks ws s was r is =
+    Checked checks r (λ m. Answers (part ws s.first s.length) s.first was is m) (is ≡ was)

@@ -2,8 +2,8 @@
 ghost use Rattle.std.specs.Prelude.{◌≡◌, Some};
 ghost use Rattle.count.specs.Faults.{fault_text, number_of, of_season, place_of};
 
-use std::fmt;
 use nvalue::season::SeasonFault;
+use std::fmt;
 
 #[derive(Clone, Copy, PartialEq, Eq, Debug)]
 pub enum CountFault {

@@ -1,15 +1,14 @@
 // The fewest different days of a stretch, over any store.
 ghost use Rattle.std.specs.Prelude.{◌≡◌, ◌+◌, ◌*◌, ◌<◌, ◌≤◌, map, length};
 ghost use Rattle.std.specs.List.{AllByRecursion};
-ghost use Rattle.count.specs.Asked.{Asks, FewestAnswer};
+ghost use Rattle.count.specs.Asked.{Asks, FewestAnswer, count_checks};
 ghost use Rattle.guard.specs.Cleared.{Cleared};
 
 use crate::fault::CountFault;
 use crate::question::{Question, ask};
 use extremes::points::fewest_of;
+use nvalue::season::Season;
 use nvalue::stretch::Stretch;
-use store::limits::LOTS;
-use store::season::Season;
 use store::store::WindowStore;
 
 // The least count of any choice for a stretch. The answer words get a choice with that count, one word a lot, then as many lot numbers of the stretch, whose
@@ -20,7 +19,7 @@ pub fn fewest<S: WindowStore>(
     answer: &mut [u32],
     work: &mut [u32],
 ) -> Result<usize, CountFault>
-    ensures asked { Asks FewestAnswer (length work.old) (S.WindowStore.windows store.now) stretch.first stretch.length answer.old result answer.new }
+    ensures asked { Asks FewestAnswer (count_checks (length work.old) (S.WindowStore.windows store.now) stretch (length answer.old)) (S.WindowStore.windows store.now) stretch answer.old result answer.new }
     ensures cleared { Cleared work.old work.new }
 {
     ask::<LeastCount, S>(store, stretch, answer, work)
@@ -34,12 +33,11 @@ impl Question for LeastCount {
 
     ghost Answers = { FewestAnswer };
 
-    fn find(season: Season, first: usize, answer: &mut [u32]) -> usize {
+    fn find(season: Season, first: usize, answer: &mut [u32], scratch: &mut [u32]) -> usize {
         let lots = season.windows.len();
-        let mut witnesses = [0; LOTS];
-        let count = fewest_of(season, &mut answer[0..lots], &mut witnesses);
+        let count = fewest_of(season, &mut answer[0..lots], scratch);
         number_lots(
-            &witnesses[0..count],
+            &scratch[0..count],
             first as u32,
             &mut answer[lots..lots + count],
         );
@@ -51,7 +49,7 @@ impl Question for LeastCount {
 // That `numbers` is as long as `places` is a clause: the two come from different hands, so no one type can hold both.
 fn number_lots(places: &[u32], first: u32, numbers: &mut [u32])
     requires each { length numbers.old ≡ length places.now }
-    requires small { AllByRecursion (λ p. p < 256) places.now }
+    requires small { AllByRecursion (λ p. p < 257) places.now }
     requires within { first ≤ 256 }
     ensures { numbers.new ≡ map (λ p. first + p) places.now }
 {

@@ -1,17 +1,15 @@
 // The most different days of a stretch, over any store.
 ghost use Rattle.std.specs.Prelude.{◌≡◌, ◌+◌, ◌*◌, ◌<◌, length};
 ghost use Rattle.store.specs.Pairs.{paired};
-ghost use Rattle.count.specs.Asked.{Asks, MostShown};
+ghost use Rattle.count.specs.Asked.{Asks, MostShown, count_checks};
 ghost use Rattle.guard.specs.Cleared.{Cleared};
 
 use crate::fault::CountFault;
 use crate::question::{Question, ask};
 pub use extremes::matching::Most;
 use extremes::matching::most_of;
+use nvalue::season::{ROOM, Season};
 use nvalue::stretch::Stretch;
-use guard::windows::put_window;
-use store::limits::LOTS;
-use store::season::Season;
 use store::store::WindowStore;
 use store::window::Window;
 
@@ -24,7 +22,7 @@ pub fn most<S: WindowStore>(
     answer: &mut [u32],
     work: &mut [u32],
 ) -> Result<Most, CountFault>
-    ensures asked { Asks MostShown (length work.old) (S.WindowStore.windows store.now) stretch.first stretch.length answer.old result answer.new }
+    ensures asked { Asks MostShown (count_checks (length work.old) (S.WindowStore.windows store.now) stretch (length answer.old)) (S.WindowStore.windows store.now) stretch answer.old result answer.new }
     ensures cleared { Cleared work.old work.new }
 {
     ask::<GreatestCount, S>(store, stretch, answer, work)
@@ -38,9 +36,9 @@ impl Question for GreatestCount {
 
     ghost Answers = { MostShown };
 
-    fn find(season: Season, first: usize, answer: &mut [u32]) -> Most {
+    fn find(season: Season, _first: usize, answer: &mut [u32], _scratch: &mut [u32]) -> Most {
         let lots = season.windows.len();
-        let mut runs = [Window::default(); LOTS];
+        let mut runs = [Window::default(); ROOM];
         let most = most_of(season, &mut answer[0..lots], &mut runs);
         let shown = most.runs;
         write_runs(&runs[0..shown], &mut answer[lots..lots + 2 * shown]);
@@ -54,6 +52,7 @@ fn write_runs(runs: &[Window], words: &mut [u32])
     ensures { paired words.new ≡ runs.now }
 {
     for (i, run) in runs.iter().enumerate() {
-        put_window(words, i, *run);
+        words[2 * i] = run.low;
+        words[2 * i + 1] = run.high;
     }
 }

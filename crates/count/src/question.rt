@@ -23,9 +23,10 @@ pub trait Question {
     ghost Answers: { List Window → ℕ → List ℕ → List ℕ → Self.Count → Type 0 };
 
     // Answers for the windows of a stretch that begins at the lot `first`.
-    fn find(season: Season, first: usize, answer: &mut [u32]) -> Self::Count
+    fn find(season: Season, first: usize, answer: &mut [u32], scratch: &mut [u32]) -> Self::Count
         requires within { first ≤ 256 }
         requires room { 2 * length season.windows.now ≤ length answer.old }
+        requires scratch { length season.windows.now ≤ length scratch.old }
         ensures { Answers season.entry.windows.now first answer.old answer.new result };
 }
 
@@ -36,7 +37,7 @@ pub(crate) fn ask<Q: Question, S: WindowStore>(
     answer: &mut [u32],
     work: &mut [u32],
 ) -> Result<Q::Count, CountFault>
-    ensures asked { Asks Q.Question.Answers (count_checks (length work.old) (S.WindowStore.windows store.now) stretch.first stretch.length (length answer.old)) (S.WindowStore.windows store.now) stretch.first stretch.length answer.old result answer.new }
+    ensures asked { Asks Q.Question.Answers (count_checks (length work.old) (S.WindowStore.windows store.now) stretch (length answer.old)) (S.WindowStore.windows store.now) stretch answer.old result answer.new }
     ensures cleared { Cleared work.old work.new }
 {
     if work.len() < WORDS {
@@ -53,16 +54,16 @@ fn ask_on<Q: Question, S: WindowStore>(
     words: &mut [u32],
 ) -> Result<Q::Count, CountFault>
     requires { length words.old ≡ 4096 }
-    ensures asked { Asks Q.Question.Answers (lent_checks (S.WindowStore.windows store.now) stretch.first stretch.length (length answer.old)) (S.WindowStore.windows store.now) stretch.first stretch.length answer.old result answer.new }
+    ensures asked { Asks Q.Question.Answers (lent_checks (S.WindowStore.windows store.now) stretch (length answer.old)) (S.WindowStore.windows store.now) stretch answer.old result answer.new }
     ensures zero { (k : ℕ) → k < length words.new → slice_index words.new k ≡ 0 }
 {
-    let _guard = Guard { words };
+    let guard = Guard { words };
     let mut room = [Window::default(); ROOM];
     let lots = read_windows(store, &mut room)?;
     let season = Season {
         windows: &room[..lots],
     };
-    ask_of::<Q>(season, stretch, answer)
+    ask_of::<Q>(season, stretch, answer, guard.words)
 }
 
 // The same of the windows of all lots.
@@ -70,9 +71,11 @@ fn ask_of<Q: Question>(
     season: Season,
     stretch: Stretch,
     answer: &mut [u32],
+    scratch: &mut [u32],
 ) -> Result<Q::Count, CountFault>
-    requires { length season.windows.now ≤ 256 }
-    ensures { Asks Q.Question.Answers (stretch_checks (length season.entry.windows.now) stretch.first stretch.length (length answer.old)) season.entry.windows.now stretch.first stretch.length answer.old result answer.new }
+    requires few { length season.windows.now ≤ 256 }
+    requires scratch { 256 ≤ length scratch.old }
+    ensures { Asks Q.Question.Answers (stretch_checks (length season.entry.windows.now) stretch (length answer.old)) season.entry.windows.now stretch answer.old result answer.new }
 {
     if !stretch.lies_within(season.windows.len()) {
         return Err(CountFault::NoSuchStretch);
@@ -82,5 +85,5 @@ fn ask_of<Q: Question>(
     if answer.len() < 2 * stretch.length {
         return Err(CountFault::ShortAnswer);
     }
-    Ok(Q::find(windows, stretch.first, answer))
+    Ok(Q::find(windows, stretch.first, answer, scratch))
 }

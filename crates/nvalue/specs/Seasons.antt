@@ -1,9 +1,10 @@
 -- Which windows make no season, as checks in their order.
 use Rattle.std.specs.Prelude.{◌≡◌, ℕ, ◌<◌, ◌≤◌, List, [], ◌∷◌, length}
+use Rattle.std.specs.List.{AllByRecursion}
 use Rattle.store.specs.declared.window.Window.{Window}
 use Rattle.store.specs.Checks.{refuse}
 use Rattle.store.specs.Over.{over}
-use Rattle.store.specs.Sound.{FirstFaulty}
+use Rattle.store.specs.Sound.{FirstFaulty, Sound}
 use Rattle.nvalue.specs.declared.season.SeasonFault.{SeasonFault}
 use Rattle.nvalue.specs.declared.season.SeasonFault.TheVariants.{TooManyLots, FaultyWindow}
 
@@ -22,3 +23,7 @@ season_checks ws = lot_checks TooManyLots FaultyWindow ws
 pub record Filled (ws was is : List Window) : Type 0 where
   pub few : length ws ≤ 256 → is ≡ over ws was
   pub many : 256 < length ws → is ≡ was
+
+-- so many lots, at most 256, all of them with sound windows
+abbrev pub CountsLots : List Window → ℕ → Type 0
+CountsLots ws lots = (lots ≡ length ws) × (length ws ≤ 256) × AllByRecursion Sound ws

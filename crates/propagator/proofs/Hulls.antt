@@ -3,7 +3,10 @@ use Rattle.std.proofs.Common.{◌≡◌, ℕ, ◌+◌, ◌<◌, List, length, se
 use Rattle.std.proofs.lemmas.List.{get_or-set_other, get_or-set_same}
 use Rattle.store.specs.declared.window.Window.{Window}
 use Rattle.store.specs.Windows.{window, window_at}
-use Rattle.nvalue.proofs.Choices.{choice_from_get_or, choice_length}
+use Rattle.std.specs.List.{AllByRecursion}
+use Rattle.std.proofs.ByRecursion.{All-from_get_or, All-get_or}
+use Rattle.store.specs.Sound.{Sound}
+use Rattle.nvalue.proofs.Choices.{choice_from_get_or, choice_get_or, choice_length}
 use Rattle.extremes.specs.Shown.{HasMost}
 use Rattle.propagator.specs.BestDays.{UsedDays}
 use Rattle.propagator.specs.Tight.{Hull}
@@ -23,3 +26,15 @@ used_more ws is lot used l inv here =
     below_more (λ k. UsedDays ws k (window_at (set is lot used) k)) lot
     (λ k b. subst (UsedDays ws k) (sym (get_or-set_other is lot k used (window 0 0) (omega arith))) (inv k b))
     (subst (UsedDays ws lot) (sym (get_or-set_same is lot used (window 0 0) l)) here)
+
+-- the hull of choices is sound where the windows are: each end is a day of a choice, which lies in both
+pub hull_sound : (ws is : List Window) (P : List ℕ → Type 0) → Hull ws P is → AllByRecursion Sound ws → AllByRecursion Sound is
+hull_sound ws is P h sound =
+    All-from_get_or Sound is (window 0 0) (λ i b.
+    let l : i < length ws = omega (arith, h.each) in
+    let lo = h.low i l in
+    let hi = h.high i l in
+    let inside = choice_get_or is lo.0 (h.kept lo.0 lo.1 lo.2) i b in
+    let outside = choice_get_or ws hi.0 hi.1 i l in
+    let s = All-get_or Sound ws i (window 0 0) l sound in
+    (omega (arith, inside, lo.3), omega (arith, outside, hi.3, s)))

@@ -1,9 +1,11 @@
 -- The tightest windows of one rule: the smallest windows, and the smallest count window, that hold every choice with a count that the rule allows.
-use Rattle.std.specs.Prelude.{◌≡◌, ℕ, ◌<◌, ◌≤◌, List, length, slice_index}
+use Rattle.std.specs.Prelude.{◌≡◌, ℕ, ◌<◌, ◌≤◌, List, Option, length, slice_index, MatchOption}
 use Rattle.store.specs.declared.window.Window.{Window}
 use Rattle.store.specs.Windows.{window_at}
 use Rattle.nvalue.specs.Choices.{Choice}
 use Rattle.nvalue.specs.Nvalue.{nvalue, Counts}
+use Rattle.nvalue.specs.declared.count_window.CountWindow.{CountWindow}
+use Rattle.propagator.specs.declared.tighten.Tight.{Tight}
 
 -- the smallest windows that hold every choice of which P holds: each end is the day of one, and none is lost
 pub record Hull (ws : List Window) (P : List ℕ → Type 0) (is : List Window) : Type 0 where
@@ -28,3 +30,13 @@ pub record Tightest (ws : List Window) (floor ceiling : ℕ) (is : List Window) 
   pub least_is : (ds : List ℕ) × Choice ws ds × Counts floor ceiling ds × (nvalue ds ≡ least)
   pub most_is : (ds : List ℕ) × Choice ws ds × Counts floor ceiling ds × (nvalue ds ≡ most)
   pub between : (ds : List ℕ) → Choice ws ds → Counts floor ceiling ds → Counts least most ds
+
+-- no choice has a count from floor to ceiling
+abbrev pub NoSuchChoice : List Window → ℕ → ℕ → Type 0
+NoSuchChoice ws floor ceiling = (ds : List ℕ) → Choice ws ds → Counts floor ceiling ds → ⊥
+
+-- one rule's windows and count window are tightened, or no choice is left
+abbrev pub Tightens : List Window → CountWindow → Option Tight → Type 0
+Tightens ws count r =
+    MatchOption r (NoSuchChoice ws count.floor count.ceiling)
+    (λ tight. Tightest ws count.floor count.ceiling tight.season.windows.now tight.count.floor tight.count.ceiling)

@@ -12,8 +12,7 @@ ghost use Rattle.propagator.specs.Tight.{Hull, IsLeast};
 use extremes::mirror::{flip_day, mirror_season};
 use extremes::order::{Slot, by_last_day};
 use extremes::points::serve;
-use store::limits::LOTS;
-use store::season::Season;
+use nvalue::season::{ROOM, Season};
 use store::window::Window;
 
 // The points from the left are given; those from the right are found by the mirror image. Each pair of them bounds the days that can stand for one of the fewest.
@@ -23,10 +22,10 @@ pub fn fewest_hull(season: Season, points: &[u32], hull: &mut [Window])
     requires points { Points season.windows.now points.now }
     ensures { Hull season.entry.windows.now (HasFewest season.entry.windows.now) hull.new }
 {
-    let mut room = [Window::default(); LOTS];
+    let mut room = [Window::default(); ROOM];
     let image = mirror_season(season, &mut room);
-    let mut slots = [(0, 0); LOTS];
-    let mut image_points = [0; LOTS];
+    let mut slots = [(0, 0); ROOM];
+    let mut image_points = [0; ROOM];
     let count = points_of(image, by_last_day(image, &mut slots), &mut image_points);
     narrow(season, points, &image_points[0..count], hull);
 }
@@ -40,8 +39,8 @@ pub fn points_of(season: Season, order: &[Slot], points: &mut [u32]) -> usize
     ensures few { result ≤ length points.new }
     ensures least { IsLeast season.entry.windows.now result }
 {
-    let mut days = [0; LOTS];
-    let mut lots = [0; LOTS];
+    let mut days = [0; ROOM];
+    let mut lots = [0; ROOM];
     let count = serve(season, order, &mut days[0..season.windows.len()], &mut lots);
     last_days(season.windows, &lots[0..count], &mut points[0..count]);
     count

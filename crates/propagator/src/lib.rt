@@ -6,7 +6,7 @@ mod loose;
 mod most_hull;
 mod seats;
 mod shut;
-pub mod tight;
+pub mod tighten;
 mod walk;
 
 // Count windows stand in the crate of counting; callers of `tighten` find them here too.

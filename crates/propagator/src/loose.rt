@@ -5,19 +5,18 @@ ghost use Rattle.extremes.specs.Turns.{EndBefore};
 ghost use Rattle.propagator.specs.BestDays.{Best};
 ghost use Rattle.propagator.specs.Seats.{Holds, Pending, Seated, Spared, Spread};
 
-use store::limits::LOTS;
-use store::season::Season;
+use nvalue::season::{ROOM, Season};
 use store::window::Window;
 
 // Marks the loose lots: at first they are those that share their day; where a lot is loose it may take the day of any other, which is loose then.
-pub fn spread(season: Season, days: &[u32], holders: &[Option<u8>], loose: &mut [bool])
+pub fn spread(season: Season, days: &[u32], holders: &[Option<u16>], loose: &mut [bool])
     requires best { Best season.windows.now days.now }
     requires seated { Seated (length days.now) days.now holders.now loose.old }
     requires each { length loose.old ≡ length season.windows.now }
     requires ends { EndBefore (length holders.now) season.windows.now }
     ensures { Spared season.entry.windows.now days.now loose.new }
 {
-    let mut room = [false; LOTS];
+    let mut room = [false; ROOM];
     let pending = &mut room[..season.windows.len()];
     pending.copy_from_slice(loose);
     while let Some(lot) = first_of(pending) {
@@ -34,7 +33,7 @@ fn first_of(pending: &[bool]) -> Option<usize>
 }
 
 // The lots that have a day of the window become loose, and pending where they were not.
-fn spread_from(window: Window, holders: &[Option<u8>], loose: &mut [bool], pending: &mut [bool])
+fn spread_from(window: Window, holders: &[Option<u16>], loose: &mut [bool], pending: &mut [bool])
     requires sound { Sound window }
     requires ends { window.high < length holders.now }
     requires known { (day k : ℕ) → Holds holders.now day k → k < length loose.old }

@@ -11,8 +11,8 @@ use crate::seats::seat;
 use crate::shut::{Seats, shut_out};
 use crate::walk::Walk;
 use extremes::matching::{SHORT, end_before};
-use store::limits::{DAYS, LOTS};
-use store::season::Season;
+use nvalue::season::{ROOM, Season};
+use store::limits::DAYS;
 use store::window::Window;
 
 // Writes for each lot the first and the last day that a choice with the most different days gives to it; `days` is such a choice.
@@ -30,14 +30,14 @@ pub fn most_hull(season: Season, days: &[u32], hull: &mut [Window])
 }
 
 // The same with a seat for each day, all free.
-fn hull_in(season: Season, days: &[u32], holders: &mut [Option<u8>], hull: &mut [Window])
+fn hull_in(season: Season, days: &[u32], holders: &mut [Option<u16>], hull: &mut [Window])
     requires each { length hull.old ≡ length season.windows.now }
     requires best { Best season.windows.now days.now }
     requires free { (d : ℕ) → Free holders.old d }
     requires ends { EndBefore (length holders.old) season.windows.now }
     ensures { Hull season.entry.windows.now (HasMost season.entry.windows.now) hull.new }
 {
-    let mut flags = [false; LOTS];
+    let mut flags = [false; ROOM];
     let loose = &mut flags[..season.windows.len()];
     seat(days, holders, loose);
     spread(season, days, holders, loose);

@@ -3,8 +3,8 @@ ghost use Rattle.std.specs.Prelude.{◌≡◌, ℕ, ◌<◌, ◌≤◌, true, le
 ghost use Rattle.propagator.specs.Seats.{Holds, Seated};
 
 // Notes for each day a lot that has it, and which lots share their day. At first nothing is noted.
-pub fn seat(days: &[u32], holders: &mut [Option<u8>], loose: &mut [bool])
-    requires few { length days.now ≤ 256 }
+pub fn seat(days: &[u32], holders: &mut [Option<u16>], loose: &mut [bool])
+    requires few { length days.now ≤ 257 }
     requires ends { (k : ℕ) → k < length days.now → slice_index days.now k < length holders.old }
     requires each { length loose.old ≡ length days.now }
     requires none { Seated 0 days.now holders.old loose.old }
@@ -16,8 +16,8 @@ pub fn seat(days: &[u32], holders: &mut [Option<u8>], loose: &mut [bool])
 }
 
 // One lot takes its seat. Where another has it already, both are loose.
-fn take_seat(lot: usize, day: usize, holders: &mut [Option<u8>], loose: &mut [bool])
-    requires few { lot < 256 }
+fn take_seat(lot: usize, day: usize, holders: &mut [Option<u16>], loose: &mut [bool])
+    requires few { lot < 257 }
     requires there { lot < length loose.old }
     requires ends { day < length holders.old }
     requires known { (other : ℕ) → Holds holders.old day other → other < length loose.old }
@@ -28,5 +28,5 @@ fn take_seat(lot: usize, day: usize, holders: &mut [Option<u8>], loose: &mut [bo
         loose[other as usize] = true;
         loose[lot] = true;
     }
-    holders[day] = Some(lot as u8);
+    holders[day] = Some(lot as u16);
 }

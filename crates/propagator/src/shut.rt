@@ -7,7 +7,7 @@ ghost use Rattle.propagator.specs.Seats.{Bound, SeatsOf};
 ghost use Rattle.propagator.specs.Walks.{Facing, ShutOut};
 
 use crate::walk::Walk;
-use store::season::Season;
+use nvalue::season::{ROOM, Season};
 use store::window::Window;
 
 // The seats of a choice with the most different days: each lot's day, the lot that stands for each day, and the lots that can be spared.
@@ -16,7 +16,7 @@ use store::window::Window;
 pub struct Seats<'a> {
     pub season: Season<'a>,
     pub days: &'a [u32],
-    pub holders: &'a [Option<u8>],
+    pub holders: &'a [Option<u16>],
     pub loose: &'a [bool],
 }
 

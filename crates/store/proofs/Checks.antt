@@ -47,3 +47,9 @@ exactly_last {E} {V} first why None (Err e) Given Stays own given h =
     last : Refused (refuse why None ∷ []) e → None × (e ≡ why)
     last (here k) = k
     last (later _ k) = absurd k
+
+-- A call that has passed its first checks answers by the rest of the list.
+pub checked_after : {E V : Type 0} (checks more : List (E → Type 0)) (r : Result V E) (Given : V → Type 0) (Stays : Type 0)
+    → Passes checks → Checked more r Given Stays → Checked (checks ++ more) r Given Stays
+checked_after checks more (Ok v) Given Stays p c = (passes_both checks more p c.0, c.1)
+checked_after checks more (Err e) Given Stays p c = (refused_back checks more e p c.0, c.1)

@@ -5,7 +5,7 @@ use Rattle.count.proofs.fewest.number_lots.Goals as goal
 
 pub overflow_add-numbers : goal.overflow_add-numbers
 overflow_add-numbers c =
-    let small = All-get_or (λ p. p < 256) c.args.places.now c.loop-i.i 0 (omega arith) c.requires.small in
+    let small = All-get_or (λ p. p < 257) c.args.places.now c.loop-i.i 0 (omega arith) c.requires.small in
     let within = c.requires.within in
     search rules
 

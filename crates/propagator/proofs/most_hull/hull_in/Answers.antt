@@ -18,10 +18,10 @@ seat-requires-clause-ends c =
 
 pub seat-requires-clause-each : goal.seat-requires-clause-each
 seat-requires-clause-each c =
-    length-take-le (length c.args.season.windows.now) (replicate 256 false) c.args.season.few ∙ sym (choice_length c.args.season.windows.now c.args.days.now c.requires.best.choice)
+    length-take-le (length c.args.season.windows.now) (replicate 257 false) c.args.season.few ∙ sym (choice_length c.args.season.windows.now c.args.days.now c.requires.best.choice)
 
 pub seat-requires-clause-none : goal.seat-requires-clause-none
-seat-requires-clause-none c = seated_none c.args.days.now c.args.holders.now (length c.args.season.windows.now) 256 c.requires.free
+seat-requires-clause-none c = seated_none c.args.days.now c.args.holders.now (length c.args.season.windows.now) 257 c.requires.free
 
 pub used_days-requires-clause-seats : goal.used_days-requires-clause-seats
 used_days-requires-clause-seats c =
@@ -32,7 +32,7 @@ used_days-requires-clause-seats c =
       holder = λ day k h. let is = s.holder day k h in (omega (arith, is.0), is.1);
       seat = λ k b. s.seat k (omega arith);
       spared = c.spread.ensures;
-      each = c.spread.auto.loose ∙ c.seat.auto.loose ∙ length-take-le (length c.args.season.windows.now) (replicate 256 false) c.args.season.few;
+      each = c.spread.auto.loose ∙ c.seat.auto.loose ∙ length-take-le (length c.args.season.windows.now) (replicate 257 false) c.args.season.few;
       ends = subst (λ n. EndBefore n c.args.season.windows.now) (sym c.seat.auto.holders) c.requires.ends;
     }
 

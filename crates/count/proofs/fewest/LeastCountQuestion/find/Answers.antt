@@ -13,7 +13,7 @@ number_lots-requires c =
     let z : c.fewest_of-count.result - 0 ≡ c.fewest_of-count.result = omega arith in
     record {
       each = search (rules, places);
-      small = All-weaker (λ p. p < length c.args.season.windows.now) (λ p. p < 256) (λ p h. omega (arith, c.args.season.few)) _
+      small = All-weaker (λ p. p < length c.args.season.windows.now) (λ p. p < 257) (λ p h. omega (arith, c.args.season.few)) _
           (subst (λ k. AllByRecursion (λ p. p < length c.args.season.windows.now) (take k c.fewest_of-count.new.lots)) (sym z) s.there);
       within = c.requires.within;
     }

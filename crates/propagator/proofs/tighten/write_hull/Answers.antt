@@ -1,7 +1,7 @@
 use Rattle.std.proofs.Common.{length, sym, ◌∙◌, subst, inl, inr, arith}
 use Rattle.propagator.specs.Tight.{Hull}
 use Rattle.propagator.proofs.Tightened.{at_ceiling, at_floor, stays}
-use Rattle.propagator.proofs.tight.write_hull.Goals as goal
+use Rattle.propagator.proofs.tighten.write_hull.Goals as goal
 
 pub returns-then-least-most : goal.returns-then-least-most
 returns-then-least-most c =

@@ -6,52 +6,54 @@ ghost use Rattle.extremes.specs.Orders.{slots};
 ghost use Rattle.extremes.specs.Points.{Points};
 ghost use Rattle.propagator.specs.BestDays.{Best};
 ghost use Rattle.nvalue.specs.Choices.{Choice};
-ghost use Rattle.count.specs.Asked.{Unfit};
 ghost use Rattle.store.specs.Sound.{Sound};
 ghost use Rattle.nvalue.specs.Nvalue.{Counts};
-ghost use Rattle.propagator.specs.Tight.{Hull, IsGreatest, IsLeast, Tightest};
+ghost use Rattle.propagator.specs.Tight.{Hull, IsGreatest, IsLeast, NoSuchChoice, Tightens, Tightest};
 
 use crate::fewest_hull::{fewest_hull, points_of};
 use crate::most_hull::most_hull;
-use count::fault::CountFault;
 use extremes::matching::place_lots;
 use extremes::order::{Slot, by_last_day};
 use nvalue::count_window::CountWindow;
-use store::limits::LOTS;
-use store::season::Season;
+use nvalue::season::{ROOM, Season};
 use store::window::Window;
 
-// Narrows the windows of a stretch to the smallest that hold every choice with a count in the count window, and answers the smallest count window of those
-// choices; or answers that there is no such choice, and leaves the windows. More than 256 windows are refused, and so is a faulty one.
-pub fn tighten(
-    windows: &mut [Window],
+// The tightest windows of a rule and its tightest count window, in room that was lent for them.
+#[derive(Clone, Copy)]
+pub struct Tight<'a> {
+    pub season: Season<'a>,
+    pub count: CountWindow,
+}
+
+// The smallest windows that hold every choice with a count in the count window, and the smallest count window of those
+// choices; none where there is no such choice.
+pub fn tighten<'a>(
+    season: Season,
     count: CountWindow,
-) -> Result<Option<CountWindow>, CountFault>
-    ensures { MatchResult result (λ o. (length windows.old ≤ 256) × AllByRecursion Sound windows.old × MatchOption o (((ds : List ℕ) → Choice windows.old ds → Counts count.floor count.ceiling ds → ⊥) × (windows.new ≡ windows.old)) (λ tight. Tightest windows.old count.floor count.ceiling windows.new tight.floor tight.ceiling)) (λ e. Unfit windows.old e × (windows.new ≡ windows.old)) }
+    room: &'a mut [Window; ROOM],
+) -> Option<Tight<'a>>
+    ensures { Tightens season.entry.windows.now count result }
 {
-    let mut room = [Window::default(); LOTS];
-    let season = Season::new(windows)?;
     let hull = &mut room[0..season.windows.len()];
-    let tight = tighten_season(season, count, hull);
-    if tight.is_some() {
-        windows.copy_from_slice(hull);
-    }
-    Ok(tight)
+    let count = tighten_in(season, count, hull)?;
+    let season = Season { windows: hull };
+    Some(Tight { season, count })
 }
 
 // Writes the tightest windows, and answers the tightest count window; none where there is no such choice.
 // That `hull` is as long as the season is a clause: the two come from different hands, so no one type can hold both.
-fn tighten_season(season: Season, count: CountWindow, hull: &mut [Window]) -> Option<CountWindow>
+fn tighten_in(season: Season, count: CountWindow, hull: &mut [Window]) -> Option<CountWindow>
     requires each { length hull.old ≡ length season.windows.now }
-    ensures { MatchOption result ((ds : List ℕ) → Choice season.entry.windows.now ds → Counts count.floor count.ceiling ds → ⊥) (λ tight. Tightest season.entry.windows.now count.floor count.ceiling hull.new tight.floor tight.ceiling) }
+    ensures tightest { MatchOption result (NoSuchChoice season.entry.windows.now count.floor count.ceiling) (λ tight. Tightest season.entry.windows.now count.floor count.ceiling hull.new tight.floor tight.ceiling) }
+    ensures stays { result ≡ None → hull.new ≡ hull.old }
 {
     let lots = season.windows.len();
-    let mut slots = [(0, 0); LOTS];
+    let mut slots = [(0, 0); ROOM];
     let order = by_last_day(season, &mut slots);
-    let mut room = [0; LOTS];
+    let mut room = [0; ROOM];
     let fewest = points_of(season, order, &mut room);
     let points = &room[..fewest];
-    let mut space = [0; LOTS];
+    let mut space = [0; ROOM];
     let days = &mut space[..lots];
     let most = best_of(season, order, days);
     let least = fewest as u32;
@@ -103,6 +105,6 @@ fn best_of(season: Season, order: &[Slot], days: &mut [u32]) -> u32
     ensures best { Best season.entry.windows.now days.new }
     ensures most { IsGreatest season.entry.windows.now result }
 {
-    let mut runs = [Window::default(); LOTS];
+    let mut runs = [Window::default(); ROOM];
     place_lots(season, order, days, &mut runs).count as u32
 }
