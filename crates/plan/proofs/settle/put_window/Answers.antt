@@ -1,15 +1,12 @@
-use Rattle.std.proofs.Common.{◌∙◌}
-use Rattle.plan.proofs.Putting.{put_both, put_both_same, put_low_same}
+use Rattle.store.proofs.Narrowing.{onward_trim}
+use Rattle.plan.proofs.Putting.{put_both}
 use Rattle.plan.proofs.settle.put_window.Goals as goal
 
-pub returns : goal.returns
-returns g c =
-    let ws = g.S.WindowStore.windows c.args.store.now in
-    let mid = g.S.WindowStore.windows c.raise.new.self in
-    let is = g.S.WindowStore.windows c.lower.new.self in
-    record {
-      moved = put_both ws mid is c.args.lot c.args.window _ _ c.requires.there c.requires.inside c.requires.sound c.raise.ensures.raises c.lower.ensures.lowers;
-      still = λ e. c.lower.ensures.still (put_both_same ws mid is c.args.lot c.args.window _ _ c.requires.there c.requires.inside c.requires.sound c.raise.ensures.raises c.lower.ensures.lowers e)
-          ∙ c.raise.ensures.still (put_low_same ws mid is c.args.lot c.args.window _ _ c.requires.there c.requires.inside c.requires.sound c.raise.ensures.raises c.lower.ensures.lowers e);
-      framed = c.lower.ensures.framed ∙ c.raise.ensures.framed;
-    }
+pub returns-clause-moved : goal.returns-clause-moved
+returns-clause-moved g c =
+    put_both (g.S.WindowStore.windows c.args.store.now) (g.S.WindowStore.windows c.raise.new.self) (g.S.WindowStore.windows c.lower.new.self) c.args.lot c.args.window _ _
+    c.requires.there c.requires.inside c.requires.sound c.raise.ensures.trims c.lower.ensures.trims
+
+pub returns-clause-reach : goal.returns-clause-reach
+returns-clause-reach g c =
+    onward_trim (g.S.WindowStore.windows c.raise.new.self) (g.S.WindowStore.windows c.lower.new.self) _ _ _ c.lower.ensures.trims c.raise.ensures.reach c.lower.ensures.reach
