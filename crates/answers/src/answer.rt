@@ -22,7 +22,7 @@ pub enum Answer {
     Refused(u32),
 }
 
-// Do both solvers answer the same? What is printed, and the status of the program, hang on this alone, so it is proved.
+// Do both solvers answer the same? What is printed and the program's status hang on this alone, so it is proved.
 pub fn agree(planner: &Answer, second: &Answer) -> bool
     ensures { Decides result (Same planner.now second.now) }
 {

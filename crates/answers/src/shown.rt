@@ -1,6 +1,7 @@
 // Answers and small sheets in plain words.
 use crate::answer::Answer;
 use crate::small::Small;
+use nvalue::stretch::Stretch;
 use rules::row::Row;
 use std::fmt;
 use store::window::Window;
@@ -65,11 +66,11 @@ fn write_windows<W: fmt::Write>(f: &mut fmt::Formatter<W>, windows: &[Window]) -
 
 fn write_rule<W: fmt::Write>(f: &mut fmt::Formatter<W>, rule: &Row) -> fmt::Result {
     let Row {
-        first,
-        length,
+        stretch,
         floor,
         ceiling,
     } = *rule;
+    let Stretch { first, length } = stretch;
     let last = first.saturating_add(length).saturating_sub(1);
     match length {
         1 => write!(f, "; lot {first} on {floor} to {ceiling} days"),

@@ -1,7 +1,9 @@
 // A small sheet: the windows of a few lots, and a few rules over them.
 ghost use Rattle.std.specs.Prelude.{◌≡◌, IfOk};
+ghost use Rattle.rules.specs.Sheets.{row};
 ghost use Rattle.answers.specs.Smalls.{Holds, days_of, windows_of};
 
+use nvalue::stretch::Stretch;
 use rules::row::Row;
 use std::alloc::{AllocError, Global};
 use store::window::Window;
@@ -46,11 +48,11 @@ pub fn window(low: u32, high: u32) -> Window
 
 // The `length` lots from the lot `first` on take from `floor` to `ceiling` different days.
 pub fn rule(first: usize, length: usize, floor: u32, ceiling: u32) -> Row
-    ensures { result ≡ record { first = first; length = length; floor = floor; ceiling = ceiling } }
+    ensures { result ≡ row first length floor ceiling }
 {
+    let stretch = Stretch { first, length };
     Row {
-        first,
-        length,
+        stretch,
         floor,
         ceiling,
     }
