@@ -1,6 +1,8 @@
-pub mod Fitted
-pub mod Insides
+pub mod Cutting
+pub mod Each
+pub mod Firming
 pub mod Measures
-pub mod Steps
-pub mod Tightened
-pub mod Turns
+pub mod Problems
+pub mod Propagating
+pub mod Running
+pub mod Writing

@@ -1,15 +1,11 @@
--- What falls with each turn: the widths of the windows, or else the number of rules that are due.
+-- What each run makes less: the width of the windows, or else the number of rules that wait.
 use Rattle.std.proofs.Common.{◌≡◌, ℕ, zero, suc, ◌+◌, ◌-◌, ◌*◌, ◌<◌, ◌≤◌, Bool, true, false, cond, ◌⊎◌, List, [], ◌∷◌, length, get_or, set, sym, refl, ap, ◌∙◌, ap₂, inl, inr, arith}
-use Rattle.std.specs.List.{AllZip, AllByRecursion}
+use Rattle.std.specs.List.{AllByRecursion}
 use Rattle.std.proofs.lemmas.Bool.{cases_eq, both_ways}
 use Rattle.store.specs.declared.window.Window.{Window}
 use Rattle.store.specs.Sound.{Sound}
-use Rattle.store.specs.Windows.{window}
-use Rattle.rules.specs.Firm.{Narrower}
-
-abbrev pub widths : List Window → ℕ
-widths [] = 0
-widths (w ∷ ws) = (w.high - w.low) + widths ws
+use Rattle.store.specs.Windows.{Narrower, Narrowed, window}
+use Rattle.propagation.specs.Widths.{width}
 
 abbrev pub flags : List Bool → ℕ
 flags [] = 0
@@ -22,30 +18,30 @@ same_or_less v w n s = elim (cases_eq v.low w.low) [
 ]
 
 -- narrower windows are the same, or less wide
-pub widths_fall : (vs ws : List Window) → AllZip Narrower vs ws → AllByRecursion Sound vs → (widths vs < widths ws) ⊎ (vs ≡ ws)
-widths_fall [] [] e s = inr refl
-widths_fall [] (w ∷ ws) e s = absurd e
-widths_fall (v ∷ vs) [] e s = absurd e
-widths_fall (v ∷ vs) (w ∷ ws) (n, e) (o, s) = elim (widths_fall vs ws e s) [
+pub width_falls : (vs ws : List Window) → Narrowed vs ws → AllByRecursion Sound vs → (width vs < width ws) ⊎ (vs ≡ ws)
+width_falls [] [] e s = inr refl
+width_falls [] (w ∷ ws) e s = absurd e
+width_falls (v ∷ vs) [] e s = absurd e
+width_falls (v ∷ vs) (w ∷ ws) (n, e) (o, s) = elim (width_falls vs ws e s) [
   | inl a ↦ inl (omega arith)
-  | inr a ↦ elim (same_or_less v w n o) [ inl b ↦ inl (omega (arith, ap widths a)) | inr b ↦ inr (ap₂ (λ x xs. x ∷ xs) b a) ]
+  | inr a ↦ elim (same_or_less v w n o) [ inl b ↦ inl (omega (arith, ap width a)) | inr b ↦ inr (ap₂ (λ x xs. x ∷ xs) b a) ]
 ]
 
-pub flags_few : (bs : List Bool) → flags bs ≤ length bs
+flags_few : (bs : List Bool) → flags bs ≤ length bs
 flags_few [] = omega arith
 flags_few (true ∷ bs) = omega (arith, flags_few bs)
 flags_few (false ∷ bs) = omega (arith, flags_few bs)
 
-pub flags_cleared : (bs : List Bool) (k : ℕ) → k < length bs → get_or bs k true ≡ true → flags (set bs k false) < flags bs
+flags_cleared : (bs : List Bool) (k : ℕ) → k < length bs → get_or bs k true ≡ true → flags (set bs k false) < flags bs
 flags_cleared [] k h e = absurd (omega arith)
 flags_cleared (true ∷ bs) zero h e = omega arith
 flags_cleared (false ∷ bs) zero h e = absurd (both_ways false refl e)
 flags_cleared (b ∷ bs) (suc k) h e = omega (arith, flags_cleared bs k (omega arith) e)
 
--- Rules become due only where a window moved: then there is less width. Otherwise one rule less is due.
-pub measure_falls : (is ws : List Window) (due left was : List Bool) (k : ℕ) → AllZip Narrower is ws → AllByRecursion Sound is → length due ≡ 32 → (ws ≡ is → due ≡ left) → left ≡ set was k false → k < length was → get_or was k true ≡ true
-    → widths is * 33 + flags due < widths ws * 33 + flags was
-measure_falls is ws due left was k e s long still f h t = elim (widths_fall is ws e s) [
-  | inl a ↦ omega (arith, flags_few due)
-  | inr a ↦ omega (arith, flags_cleared was k h t, ap flags (still (sym a) ∙ f), ap widths a)
+-- Rules are queued only where a window moved: then there is less width. Otherwise one rule less waits.
+pub measure_falls : (is ws : List Window) (queue left was : List Bool) (k : ℕ) → Narrowed is ws → AllByRecursion Sound is → length queue ≡ 33 → (ws ≡ is → queue ≡ left) → left ≡ set was k false → k < length was → get_or was k true ≡ true
+    → width is * 34 + flags queue < width ws * 34 + flags was
+measure_falls is ws queue left was k e s long still f h t = elim (width_falls is ws e s) [
+  | inl a ↦ omega (arith, flags_few queue)
+  | inr a ↦ omega (arith, flags_cleared was k h t, ap flags (still (sym a) ∙ f), ap width a)
 ]

@@ -1,3 +1,6 @@
-pub mod Dues
+pub mod Changes
+pub mod Flags
 pub mod Problems
-pub mod Stepped
+pub mod Queues
+pub mod Runs
+pub mod Widths

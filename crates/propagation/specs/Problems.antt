@@ -1,12 +1,10 @@
--- What a problem is about: the windows of its lots, and the rules over them.
-use Rattle.std.specs.Prelude.{List, take}
-use Rattle.store.specs.declared.window.Window.{Window}
-use Rattle.rules.specs.declared.row.Row.{Row}
-use Rattle.sheet.specs.Books.{lots_of, rules_of}
+-- What a problem is about: the sheet of the windows and the rules that are in use.
+use Rattle.std.specs.Prelude.{ℕ, take}
+use Rattle.rules.specs.Sheets.{Sheet, sheet}
 use Rattle.propagation.specs.declared.problem.Problem.{Problem}
 
-abbrev pub windows_of : Problem → List Window
-windows_of problem = take (lots_of problem.book) problem.windows
+abbrev pub lots_in : Problem → ℕ
+lots_in problem = problem.lots
 
-abbrev pub rules_in : Problem → List Row
-rules_in problem = rules_of problem.book
+abbrev pub sheet_in : Problem → Sheet
+sheet_in problem = sheet (take problem.lots problem.windows) (take problem.rules problem.rows)

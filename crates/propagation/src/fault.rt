@@ -1,17 +1,5 @@
-// Why a problem cannot be narrowed.
-ghost use Rattle.std.specs.Prelude.{◌≡◌};
-ghost use Rattle.sheet.specs.declared.fault.SheetFault.TheVariants.{NoFirmWindows};
+// Why a problem cannot be made firm.
 
-use sheet::fault::SheetFault;
-
-// No firm windows and count windows lie inside those of the problem.
+// No firm sheet lies inside the problem's.
 #[derive(Clone, Copy, PartialEq, Eq, Debug)]
 pub struct Inconsistent;
-
-impl From<Inconsistent> for SheetFault {
-    ghost from_gives = { λ _ r. r ≡ NoFirmWindows };
-
-    fn from(_fault: Inconsistent) -> SheetFault {
-        SheetFault::NoFirmWindows
-    }
-}

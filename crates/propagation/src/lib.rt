@@ -1,9 +1,9 @@
-// The fixpoint over all rules: the greatest windows and count windows that are firm.
+// Propagation: the greatest firm sheet inside a sheet, reached by the propagators of its rules.
 #![tactic(auto)]
 
-pub mod due;
 pub mod fault;
-pub mod fixpoint;
 mod moved;
 mod one_rule;
 pub mod problem;
+pub mod propagate;
+pub mod queue;
