@@ -1,4 +1,5 @@
 -- The laws of plans and of firm sheets.
+pub mod Firm
 pub mod Inside
 pub mod Lows
 pub mod Order

@@ -1,8 +1,7 @@
--- The laws that the search rests on.
-pub mod Booked
+-- What the search for the earliest plan rests on.
 pub mod Joined
 pub mod Left
-pub mod Parted
 pub mod Swaps
 pub mod Trying
+pub mod Unmoved
 pub mod Widths

@@ -12,6 +12,7 @@ use Rattle.nvalue.specs.Nvalue.{has, nvalue}
 use Rattle.nvalue.proofs.Choices.{choice_get_or, choice_length}
 use Rattle.rules.specs.declared.row.Row.{Row}
 use Rattle.rules.specs.Plans.{Keeps, Plan, NoPlan}
+use Rattle.rules.specs.Sheets.{Sheet}
 use Rattle.search.specs.Search.{NextDay, Uncut, fixed}
 use Rattle.search.proofs.Left.{plan_fixed}
 
@@ -33,8 +34,8 @@ nvalue_swap x y (d ∷ ds) = let e = nvalue_swap x y ds in let f = has_swap x y 
 
 keeps_swap : (x y : ℕ) (ds : List ℕ) (r : Row) → Keeps ds r → Keeps (map (swap x y) ds) r
 keeps_swap x y ds r k =
-    let e : part (map (swap x y) ds) r.first r.length ≡ map (swap x y) (part ds r.first r.length) = ap (take r.length) (drop-map (swap x y) r.first ds) ∙ take-map (swap x y) r.length (drop r.first ds) in
-    let n = ap nvalue e ∙ nvalue_swap x y (part ds r.first r.length) in
+    let e : part (map (swap x y) ds) r.stretch.first r.stretch.length ≡ map (swap x y) (part ds r.stretch.first r.stretch.length) = ap (take r.stretch.length) (drop-map (swap x y) r.stretch.first ds) ∙ take-map (swap x y) r.stretch.length (drop r.stretch.first ds) in
+    let n = ap nvalue e ∙ nvalue_swap x y (part ds r.stretch.first r.stretch.length) in
     (omega arith, omega arith)
 
 -- a window that begins and ends not between two days has both or neither
@@ -51,17 +52,17 @@ swap_second : (x y : ℕ) → swap x y y ≡ x
 swap_second x y = grind (arith, nat_tests)
 
 -- where no plan gives the lot its first day, none gives it a day before the next one to try
-pub skipped : (ws : List Window) (rules : List Row) (lot next : ℕ) → lot < length ws → NextDay ws lot next → NoPlan (fixed ws lot) rules → (ds : List ℕ) → Plan ws rules ds → next ≤ get_or ds lot 0
-skipped ws rules lot next there n none ds p =
-    let low = (window_at ws lot).low in
+pub skipped : (s : Sheet) (lot next : ℕ) → lot < length s.windows → NextDay s.windows lot next → NoPlan (fixed lot s) → (ds : List ℕ) → Plan s ds → next ≤ get_or ds lot 0
+skipped s lot next there n none ds p =
+    let low = (window_at s.windows lot).low in
     let day = get_or ds lot 0 in
-    let b = choice_get_or ws ds p.choice lot there in
+    let b = choice_get_or s.windows ds p.choice lot there in
     let es = map (swap low day) ds in
-    let uncut = All-from_get_or (Uncut low next) ws (window 0 0) n.uncut in
+    let uncut = All-from_get_or (Uncut low next) s.windows (window 0 0) n.uncut in
     elim (cases_lt day next) [
       | inr l ↦ l
       | inl l ↦
-          let q : Plan ws rules es = record { choice = choice_swap low day next b.0 l ws ds uncut p.choice; keeps = All-weaker (Keeps ds) (Keeps es) (keeps_swap low day ds) rules p.keeps } in
-          let e : get_or es lot 0 ≡ low = get_or-map (swap low day) ds lot 0 0 (omega (arith, choice_length ws ds p.choice)) ∙ swap_second low day in
-          absurd (none es (plan_fixed ws rules lot there es q e))
+          let q : Plan s es = record { choice = choice_swap low day next b.0 l s.windows ds uncut p.choice; keeps = All-weaker (Keeps ds) (Keeps es) (keeps_swap low day ds) s.rules p.keeps } in
+          let e : get_or es lot 0 ≡ low = get_or-map (swap low day) ds lot 0 0 (omega (arith, choice_length s.windows ds p.choice)) ∙ swap_second low day in
+          absurd (none es (plan_fixed s lot there es q e))
     ]

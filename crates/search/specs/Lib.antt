@@ -1,2 +1,2 @@
-pub mod Hunts
 pub mod Search
+pub mod Solves

@@ -1,12 +1,13 @@
 -- What the search for the earliest plan speaks of.
-use Rattle.std.specs.Prelude.{ℕ, ◌+◌, ◌-◌, ◌<◌, ◌≤◌, List, [], ◌∷◌, length, slice_set}
-use Rattle.std.specs.List.{AllZip, AllByRecursion}
+use Rattle.std.specs.Prelude.{ℕ, ◌+◌, ◌-◌, ◌<◌, ◌≤◌, List, [], ◌∷◌, length}
+use Rattle.std.specs.List.{AllByRecursion}
 use Rattle.store.specs.declared.window.Window.{Window}
 use Rattle.store.specs.Sound.{Sound}
-use Rattle.store.specs.Windows.{window, window_at}
-use Rattle.rules.specs.declared.row.Row.{Row}
-use Rattle.rules.specs.Firm.{Firm, Narrower}
-use Rattle.rules.specs.Plans.{Plan}
+use Rattle.store.specs.Windows.{window, window_at, Narrowed}
+use Rattle.rules.specs.Firm.{Firm}
+use Rattle.rules.specs.Plans.{SamePlans}
+use Rattle.rules.specs.Sheets.{Sheet}
+use Rattle.propagation.specs.Changes.{with_window}
 
 -- a window with no choice: its last day is not after its first
 abbrev pub Single : Window → Type 0
@@ -22,34 +23,26 @@ pub record FirstOpen (ws : List Window) (lot : ℕ) : Type 0 where
   pub choice : Open ws lot
   pub before : (k : ℕ) → k < lot → Single (window_at ws k)
 
--- the same plans, of two sheets
-abbrev pub SamePlans : List Window → List Row → List Window → List Row → Type 0
-SamePlans ws rules vs qs = (ds : List ℕ) → (Plan ws rules ds → Plan vs qs ds) × (Plan vs qs ds → Plan ws rules ds)
+-- the sheet with a lot fixed at its first day
+abbrev pub fixed : ℕ → Sheet → Sheet
+fixed lot s = with_window lot (window (window_at s.windows lot).low (window_at s.windows lot).low) s
 
--- the windows with a lot fixed at its first day
-abbrev pub fixed : List Window → ℕ → List Window
-fixed ws lot = slice_set ws lot (window (window_at ws lot).low (window_at ws lot).low)
-
--- the windows with another first day for a lot
-abbrev pub from_day : List Window → ℕ → ℕ → List Window
-from_day ws lot day = slice_set ws lot (window day (window_at ws lot).high)
-
--- the stretch of a rule has the lot
-abbrev pub Over : Row → ℕ → Type 0
-Over r lot = (r.first ≤ lot) × (lot < r.first + r.length)
+-- the sheet with another first day for a lot
+abbrev pub from_day : ℕ → ℕ → Sheet → Sheet
+from_day lot day s = with_window lot (window day (window_at s.windows lot).high) s
 
 -- the days that all windows together have, each beyond its first
 abbrev pub width : List Window → ℕ
 width [] = 0
 width (w ∷ ws) = (w.high - w.low) + width ws
 
--- Windows and rules that are left once a day has failed: settled, inside those before, with a day less at least, and with the same plans.
-pub record Raised (ws : List Window) (rules : List Row) (vs : List Window) (qs : List Row) : Type 0 where
-  pub firm : Firm vs qs
-  pub sound : AllByRecursion Sound vs
-  pub inside : AllZip Narrower vs ws
-  pub less : width vs < width ws
-  pub plans : SamePlans ws rules vs qs
+-- The sheet t is left of s once a day has failed: firm, inside s, with a day less at least, and with the same plans.
+pub record Raised (s t : Sheet) : Type 0 where
+  pub firm : Firm t
+  pub sound : AllByRecursion Sound t.windows
+  pub inside : Narrowed t.windows s.windows
+  pub less : width t.windows < width s.windows
+  pub plans : SamePlans s t
 
 -- no window begins after a day and before another, and none that has the day ends before the other
 abbrev pub Uncut : ℕ → ℕ → Window → Type 0

@@ -1,14 +1,14 @@
 // The earliest plan of a problem.
 #![tactic(auto)]
 
-mod due;
+mod branch;
 pub mod fault;
 mod first_day;
 pub mod groups;
-pub mod hunt;
+mod infeasible;
+pub mod limit;
 mod lows;
 mod next_day;
-pub mod patience;
-mod refute;
 mod tightest;
 pub mod tries;
+mod waking;

@@ -1,19 +1,17 @@
 // Which lot to try first where a problem is thought to have no plan.
 ghost use Rattle.std.specs.Prelude.{◌<◌, length, MatchOption};
 ghost use Rattle.std.specs.List.{AllByRecursion};
-ghost use Rattle.store.specs.Windows.{window_at};
-ghost use Rattle.propagation.specs.Problems.{windows_of};
+ghost use Rattle.propagation.specs.Problems.{sheet_in};
 ghost use Rattle.search.specs.Search.{Open, Single};
 
 use crate::lows::first_open;
 use propagation::problem::Problem;
-use sheet::book::Book;
 use store::window::Window;
 
-// Of the lots with a choice one with the smallest width for each rule over it, so that few tries tell most; those under no rule come last.
-// Which of them it is, is speed and no promise.
+// Of the lots with a choice one with the smallest width for each rule over it, so that few tries tell most (in the
+// field, smallest domain over degree); those under no rule come last. Which of them it is, is speed and no promise.
 pub(crate) fn tightest(problem: &Problem) -> Option<usize>
-    ensures { MatchOption result (AllByRecursion Single (windows_of problem.now)) (Open (windows_of problem.now)) }
+    ensures { MatchOption result (AllByRecursion Single (sheet_in problem.now).windows) (Open (sheet_in problem.now).windows) }
 {
     let windows = problem.windows();
     let mut best = first_open(windows)?;
@@ -27,12 +25,12 @@ pub(crate) fn tightest(problem: &Problem) -> Option<usize>
 
 // Has a lot a smaller width for each rule over it than another? Multiplied out, as there may be no rule.
 fn is_tighter(problem: &Problem, lot: usize, other: usize) -> bool
-    requires lot { lot < length (windows_of problem.now) }
-    requires other { other < length (windows_of problem.now) }
+    requires lot { lot < length (sheet_in problem.now).windows }
+    requires other { other < length (sheet_in problem.now).windows }
 {
     let windows = problem.windows();
-    let rules = rules_over(&problem.book, lot);
-    let other_rules = rules_over(&problem.book, other);
+    let rules = degree(problem, lot);
+    let other_rules = degree(problem, other);
     width(windows[lot]).saturating_mul(other_rules) < width(windows[other]).saturating_mul(rules)
 }
 
@@ -42,10 +40,10 @@ fn width(window: Window) -> u32 {
 }
 
 // How many rules are over a lot.
-fn rules_over(book: &Book, lot: usize) -> u32 {
+fn degree(problem: &Problem, lot: usize) -> u32 {
     let mut many: u32 = 0;
-    for row in book.rows() {
-        if row.stretch().has(lot) {
+    for row in problem.rows() {
+        if row.stretch.has(lot) {
             many = many.saturating_add(1);
         }
     }
