@@ -1,4 +1,4 @@
-// The asks: not before, not after, at least, at most.
+// The four asks, and count windows that are written.
 use crate::house::row;
 use base_stores::words::WordStore;
 use nvalue::count_window::CountWindow;
@@ -8,7 +8,7 @@ use sheet::asks::{at_least, at_most, not_after, not_before};
 use sheet::book::Book;
 use sheet::fault::{SheetFault, StoreRefusal};
 use sheet::slip::Closed;
-use sheet::start::{add_rule, start};
+use sheet::start::{add_rows, add_rule, start};
 use std::test::Fail;
 use store::fault::StoreFault;
 
@@ -25,12 +25,16 @@ fn closed(words: &mut [u32], book: &mut Book) -> Result<Closed, SheetFault> {
 }
 
 fn counts(floor: u32, ceiling: u32) -> Option<Row> {
-    Some(Row {
-        first: 0,
-        length: 2,
+    Some(over_lots(0, 2, floor, ceiling))
+}
+
+fn over_lots(first: usize, length: usize, floor: u32, ceiling: u32) -> Row {
+    let stretch = Stretch { first, length };
+    Row {
+        stretch,
         floor,
         ceiling,
-    })
+    }
 }
 
 fn store_refusal(lot: usize, fault: StoreFault) -> SheetFault {
@@ -161,6 +165,34 @@ fn a_rule_never_loosens(rt: HostRuntime) -> Result<(), Fail> {
     assert_eq!(rt; row(&book, 0), counts(1, 3));
     assert_eq!(rt; narrowed(&mut book, 0, 2, 2), Some(true));
     assert_eq!(rt; row(&book, 0), counts(2, 2));
+    Ok(())
+}
+
+#[test]
+fn all_rules_narrow_at_once(rt: HostRuntime) -> Result<(), Fail> {
+    let mut words = [3, 5, 4, 8];
+    let mut book = Book::empty(0);
+    let mut slip = start(&WordStore::new(&mut words), &mut book)?;
+    let rows = [over_lots(0, 2, 0, 3), over_lots(1, 1, 1, 2)];
+    let added = add_rows(&mut slip, &mut book, &rows);
+    slip.put_away();
+    assert_eq!(rt; added, Ok(()));
+    // fewer rows, another stretch, a looser end of the last rule, a count window that is empty
+    for refused in [
+        [over_lots(0, 2, 1, 2)].as_slice(),
+        [over_lots(0, 2, 1, 2), over_lots(0, 1, 1, 1)].as_slice(),
+        [over_lots(0, 2, 1, 2), over_lots(1, 1, 0, 1)].as_slice(),
+        [over_lots(0, 2, 1, 2), over_lots(1, 1, 1, 3)].as_slice(),
+        [over_lots(0, 2, 3, 2), over_lots(1, 1, 1, 1)].as_slice(),
+    ] {
+        assert!(rt; !book.narrow_all(refused));
+        assert_eq!(rt; book.rows(), rows);
+    }
+    let tighter = [over_lots(0, 2, 0, 2), over_lots(1, 1, 1, 1)];
+    assert!(rt; book.narrow_all(&tighter));
+    assert_eq!(rt; (book.lots(), book.rows()), (2, tighter.as_slice()));
+    let mut none = Book::empty(2);
+    assert!(rt; none.narrow_all(&[]));
     Ok(())
 }
 

@@ -97,7 +97,7 @@ fn rules_are_numbered_from_0(rt: HostRuntime) -> Result<(), Fail> {
     let mut book = Book::empty(0);
     let mut slip = start(&WordStore::new(&mut words), &mut book)?;
     let first = add(&mut slip, &mut book, 0, 2, 1, 1);
-    // a floor of 0, and a ceiling above the length
+    // a floor of 0, and a ceiling that the one lot never reaches
     let second = add(&mut slip, &mut book, 2, 1, 0, 256);
     let rules = slip.rules();
     slip.put_away();
@@ -105,8 +105,7 @@ fn rules_are_numbered_from_0(rt: HostRuntime) -> Result<(), Fail> {
     assert_eq!(rt;
         row(&book, 0),
         Some(Row {
-            first: 0,
-            length: 2,
+            stretch: lots(0, 2),
             floor: 1,
             ceiling: 1,
         })
@@ -114,8 +113,7 @@ fn rules_are_numbered_from_0(rt: HostRuntime) -> Result<(), Fail> {
     assert_eq!(rt;
         row(&book, 1),
         Some(Row {
-            first: 2,
-            length: 1,
+            stretch: lots(2, 1),
             floor: 0,
             ceiling: 256,
         })
