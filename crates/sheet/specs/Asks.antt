@@ -42,7 +42,7 @@ abbrev pub AsksDays : ℕ → HalfLine → ℕ → ℕ → Book → List Window 
 AsksDays lot days lots rules book was r is =
     Checked (day_checks lot days lots rules book was) r (λ _. Trims was lot days (Ok tt) is) (is ≡ was)
 
--- not before: the lot's first day is to be that day or a later one; not after: its last day is to be that or an earlier one
+-- not before: the lot's first day is to be that day or later; not after: its last day is to be that day or earlier
 abbrev pub NotBefore : ℕ → ℕ → ℕ → ℕ → Book → List Window → Result (Unit {0}) SheetFault → List Window → Type 0
 NotBefore lot day = AsksDays lot (From day)
 

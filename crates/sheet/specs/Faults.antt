@@ -1,5 +1,6 @@
 -- The number by which a house knows a refusal, and the lot or the rule that it names: 0 where it names none.
-use Rattle.std.specs.Prelude.{ℕ, List, ◌++◌, codes, decimal, Ok, Err, Result}
+use Rattle.std.specs.Prelude.{ℕ, List, Ok, Err, Result}
+use Rattle.store.specs.Texts.{refused_text}
 use Rattle.store.specs.declared.fault.StoreFault.{StoreFault}
 use Rattle.store.specs.declared.fault.StoreFault.TheVariants.{NoSuchLot, WouldEmpty}
 use Rattle.nvalue.specs.declared.season.SeasonFault.{SeasonFault}
@@ -49,9 +50,8 @@ place_of NoFirmWindows = 0
 place_of NoPlan = 0
 place_of Mismatch = 0
 
--- `refused R place P`
 abbrev pub fault_text : SheetFault → List ℕ
-fault_text fault = codes "refused " ++ decimal (number_of fault) ++ codes " place " ++ decimal (place_of fault)
+fault_text fault = refused_text (number_of fault) (place_of fault)
 
 -- windows that make no season are refused for the same reason
 abbrev pub of_season : SeasonFault → SheetFault

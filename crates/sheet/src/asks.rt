@@ -1,10 +1,10 @@
 // The asks: with a closed slip, a lot's window or a rule's count window is narrowed.
-ghost use Rattle.std.specs.Prelude.{◌≡◌, ◌<◌, MatchResult};
+ghost use Rattle.std.specs.Prelude.{◌≡◌, ◌<◌};
 ghost use Rattle.store.specs.Checks.{Checked};
 ghost use Rattle.store.specs.Windows.{Onward};
 ghost use Rattle.store.specs.declared.half_line.HalfLine.TheVariants.{From, UpTo};
 ghost use Rattle.sheet.specs.Asks.{AllAgree, AsksCounts, AsksDays, AtLeast, AtMost, NotAfter, NotBefore};
-ghost use Rattle.sheet.specs.declared.fault.SheetFault.TheVariants.{Mismatch};
+ghost use Rattle.sheet.specs.Drafts.{Matched};
 
 use crate::book::Book;
 use crate::fault::{SheetFault, about_lot};
@@ -22,9 +22,12 @@ pub fn not_before<S: WindowStore>(
     lot: usize,
     day: u32,
 ) -> Result<(), SheetFault>
-    ensures asks { NotBefore lot day slip.now.lots slip.now.rules book.now (S.WindowStore.windows store.old) result (S.WindowStore.windows store.new) }
-    ensures reach { Onward (S.WindowStore.reached store.old) (S.WindowStore.reached store.new) (S.WindowStore.windows store.new) }
-    ensures memory { S.WindowStore.memory store.new ≡ S.WindowStore.reached store.old (S.WindowStore.windows store.new) }
+    ensures asks { NotBefore lot day slip.now.lots slip.now.rules book.now
+        (S.WindowStore.windows store.old) result (S.WindowStore.windows store.new) }
+    ensures reach { Onward (S.WindowStore.reached store.old) (S.WindowStore.reached store.new)
+        (S.WindowStore.windows store.new) }
+    ensures memory { S.WindowStore.memory store.new
+        ≡ S.WindowStore.reached store.old (S.WindowStore.windows store.new) }
     ensures framed { S.WindowStore.frame store.new ≡ S.WindowStore.frame store.old }
 {
     ask_days(slip, store, book, lot, HalfLine::From(day))
@@ -38,9 +41,12 @@ pub fn not_after<S: WindowStore>(
     lot: usize,
     day: u32,
 ) -> Result<(), SheetFault>
-    ensures asks { NotAfter lot day slip.now.lots slip.now.rules book.now (S.WindowStore.windows store.old) result (S.WindowStore.windows store.new) }
-    ensures reach { Onward (S.WindowStore.reached store.old) (S.WindowStore.reached store.new) (S.WindowStore.windows store.new) }
-    ensures memory { S.WindowStore.memory store.new ≡ S.WindowStore.reached store.old (S.WindowStore.windows store.new) }
+    ensures asks { NotAfter lot day slip.now.lots slip.now.rules book.now
+        (S.WindowStore.windows store.old) result (S.WindowStore.windows store.new) }
+    ensures reach { Onward (S.WindowStore.reached store.old) (S.WindowStore.reached store.new)
+        (S.WindowStore.windows store.new) }
+    ensures memory { S.WindowStore.memory store.new
+        ≡ S.WindowStore.reached store.old (S.WindowStore.windows store.new) }
     ensures framed { S.WindowStore.frame store.new ≡ S.WindowStore.frame store.old }
 {
     ask_days(slip, store, book, lot, HalfLine::UpTo(day))
@@ -54,9 +60,12 @@ fn ask_days<S: WindowStore>(
     lot: usize,
     days: HalfLine,
 ) -> Result<(), SheetFault>
-    ensures asks { AsksDays lot days slip.now.lots slip.now.rules book.now (S.WindowStore.windows store.old) result (S.WindowStore.windows store.new) }
-    ensures reach { Onward (S.WindowStore.reached store.old) (S.WindowStore.reached store.new) (S.WindowStore.windows store.new) }
-    ensures memory { S.WindowStore.memory store.new ≡ S.WindowStore.reached store.old (S.WindowStore.windows store.new) }
+    ensures asks { AsksDays lot days slip.now.lots slip.now.rules book.now
+        (S.WindowStore.windows store.old) result (S.WindowStore.windows store.new) }
+    ensures reach { Onward (S.WindowStore.reached store.old) (S.WindowStore.reached store.new)
+        (S.WindowStore.windows store.new) }
+    ensures memory { S.WindowStore.memory store.new
+        ≡ S.WindowStore.reached store.old (S.WindowStore.windows store.new) }
     ensures framed { S.WindowStore.frame store.new ≡ S.WindowStore.frame store.old }
 {
     all_agree(slip, book, store)?;
@@ -104,7 +113,8 @@ fn ask_counts(
 
 // Refuses a slip and a book that differ in lots or in rules, and a store with another number of lots.
 pub fn all_agree<S: WindowStore>(slip: &Closed, book: &Book, store: &S) -> Result<(), SheetFault>
-    ensures { MatchResult result (λ _. AllAgree slip.now.lots slip.now.rules book.now (S.WindowStore.windows store.now)) (λ e. (e ≡ Mismatch) × (AllAgree slip.now.lots slip.now.rules book.now (S.WindowStore.windows store.now) → ⊥)) }
+    ensures { Matched result
+        (AllAgree slip.now.lots slip.now.rules book.now (S.WindowStore.windows store.now)) }
 {
     book.agree(slip.lots, slip.rules)?;
     if slip.lots != store.lots() {

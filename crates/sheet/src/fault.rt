@@ -20,9 +20,9 @@ pub enum SheetFault {
     Store(StoreRefusal),
     // a day above 9,999
     NoSuchDay,
-    // a length of 0, or a stretch past the last lot
+    // no lot under a rule, or one behind the last
     NoSuchStretch,
-    // a floor above the ceiling, or a ceiling above 256
+    // a rule's floor is the higher number, or its ceiling is 257 or more
     NoSuchCount,
     // a rule that is not in the book
     NoSuchRule(usize),
@@ -38,11 +38,11 @@ pub enum SheetFault {
     BookFull,
     // a floor would pass the ceiling of this rule, or a ceiling its floor
     NoCountLeft(usize),
-    // no firm windows and count windows lie inside those of the sheet
+    // inside the sheet lies none that is firm
     NoFirmWindows,
     // the sheet has no plan
     NoPlan,
-    // slip, book and store differ in lots, or slip and book in rules
+    // slip, book and store do not belong together
     Mismatch,
 }
 
@@ -101,7 +101,7 @@ impl fmt::Display for SheetFault {
     }
 }
 
-// What a store answered about a lot: a refusal names the lot, which only the caller knows, so that no `From` can add it.
+// What a store answered about a lot: a refusal names the lot. Only the caller knows it, so no `From` can add it.
 pub fn about_lot(lot: usize, answer: Result<(), StoreFault>) -> Result<(), StoreRefusal>
     ensures { result ≡ at_lot lot answer }
 {

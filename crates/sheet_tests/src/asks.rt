@@ -186,7 +186,7 @@ fn all_rules_narrow_at_once(rt: HostRuntime) -> Result<(), Fail> {
         [over_lots(0, 2, 3, 2), over_lots(1, 1, 1, 1)].as_slice(),
     ] {
         assert!(rt; !book.narrow_all(refused));
-        assert_eq!(rt; book.rows(), rows);
+        assert_eq!(rt; book.rows(), rows.as_slice());
     }
     let tighter = [over_lots(0, 2, 0, 2), over_lots(1, 1, 1, 1)];
     assert!(rt; book.narrow_all(&tighter));
