@@ -70,9 +70,9 @@ fn settle_problem<S: WindowStore>(
     ensures reach { Onward (S.WindowStore.reached store.old) (S.WindowStore.reached store.new) (S.WindowStore.windows store.new) }
     ensures framed { S.WindowStore.frame store.new ≡ S.WindowStore.frame store.old }
 {
-    if propagate_all(&mut problem).is_err() {
+    let Ok(()) = propagate_all(&mut problem) else {
         return Err(SheetFault::NoFirmWindows);
-    }
+    };
     book.narrow_all(problem.rows());
     put_windows(store, problem.windows());
     Ok(())

@@ -1,10 +1,9 @@
 -- Borders that no stretch goes across, and the plans of groups joined there.
-use Rattle.std.proofs.Common.{◌≡◌, ℕ, ◌+◌, ◌-◌, ◌≤◌, List, [], ◌∷◌, ◌++◌, length, drop, sym, ap, ◌∙◌, subst, inl, refl, arith}
+use Rattle.std.proofs.Common.{◌≡◌, ℕ, ◌+◌, ◌-◌, ◌≤◌, List, ◌++◌, length, drop, sym, ap, ◌∙◌, subst, inl, arith}
 use Rattle.std.specs.List.{AllByRecursion}
 use Rattle.std.proofs.ByRecursion.{All-weaker}
 use Rattle.std.proofs.lemmas.List.{take-append-drop, drop-drop, drop_all}
 use Rattle.nvalue.specs.Choices.{part}
-use Rattle.rules.specs.declared.row.Row.{Row}
 use Rattle.rules.specs.Parts.{Border, part_of}
 use Rattle.rules.specs.Plans.{Earliest}
 use Rattle.rules.specs.Sheets.{Fits, Sheet}

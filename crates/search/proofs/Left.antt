@@ -8,7 +8,6 @@ use Rattle.store.specs.Sound.{Sound}
 use Rattle.store.specs.Windows.{window, window_at, Narrowed, Narrower}
 use Rattle.store.proofs.Narrowing.{narrowed_set, narrowed_trans}
 use Rattle.nvalue.specs.Choices.{Choice}
-use Rattle.nvalue.proofs.Choices.{choice_get_or}
 use Rattle.rules.specs.Firm.{GreatestFirm, NoFirm}
 use Rattle.rules.specs.Plans.{Keeps, Plan, NoPlan, Earliest, SamePlans, lows}
 use Rattle.rules.specs.Sheets.{Sheet}

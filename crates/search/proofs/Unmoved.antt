@@ -7,9 +7,8 @@ use Rattle.std.proofs.lemmas.Bool.{cases_lt}
 use Rattle.store.specs.declared.window.Window.{Window}
 use Rattle.nvalue.specs.Choices.{part}
 use Rattle.nvalue.specs.Stretches.{Over}
-use Rattle.rules.specs.declared.row.Row.{Row}
 use Rattle.rules.specs.Firm.{FirmRule}
-use Rattle.rules.specs.Sheets.{Sheet, row, rule_at, under}
+use Rattle.rules.specs.Sheets.{Sheet, row, rule_at}
 use Rattle.rules.proofs.Firm.{firm_rule_under}
 use Rattle.propagation.specs.declared.queue.Queue.{Queue}
 use Rattle.propagation.specs.Changes.{with_window}

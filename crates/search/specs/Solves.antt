@@ -1,5 +1,5 @@
 -- What a search for the earliest plan answers.
-use Rattle.std.specs.Prelude.{◌≡◌, List, ℕ, Result, MatchResult}
+use Rattle.std.specs.Prelude.{List, ℕ, Result, MatchResult}
 use Rattle.rules.specs.Sheets.{Sheet}
 use Rattle.rules.specs.Plans.{Earliest, NoPlan, lows}
 use Rattle.search.specs.declared.fault.Infeasible.{Infeasible}
