@@ -1,14 +1,19 @@
 // The dispatch layer: any store, read in days before the day of dispatch.
 ghost use Rattle.std.specs.Prelude.{◌≡◌, ℕ, ◌-◌, List, map};
-ghost use Rattle.calendar.specs.Calendars.{window_before_dispatch};
-ghost use Rattle.store.specs.Windows.{low_at, high_at};
+ghost use Rattle.calendar.specs.Calendars.{until, before_dispatch, dispatch_days, dispatch_window};
+ghost use Rattle.std.proofs.Common.{ap, ap₂, ◌∙◌};
+ghost use Rattle.store.proofs.Each.{each_same, where_same_same};
+ghost use Rattle.store.specs.Each.{each};
+ghost use Rattle.store.specs.Windows.{window, found, low_at, high_at};
 ghost use Rattle.store.specs.declared.window.Window.{Window};
 
 use store::fault::StoreFault;
-use store::step::{Step, lowering, raising};
+use store::half_line::HalfLine;
+use store::step::{Step, judge};
 use store::store::WindowStore;
+use store::window::Window;
 
-// A type beside the period layer, though both hold a store and a constant: what a day shows as and which end below a call moves is all that makes a layer.
+// Not one generic type with the period layer: how days are shown and read back is all that makes a layer.
 #[derive(Drop)]
 pub struct Dispatch<S> {
     below: S,
@@ -16,14 +21,14 @@ pub struct Dispatch<S> {
 }
 
 impl<S> Dispatch<S> {
-    // The store `below`, seen from the day of dispatch `last`.
+    // The store `below` as it looks from `last`, the day of dispatch.
     pub fn new(below: S, last: u32) -> Dispatch<S>
         ensures { (result.below ≡ below) × (result.last ≡ last) }
     {
         Dispatch { below, last }
     }
 
-    // The store below, with the layer taken off.
+    // Takes the layer off.
     pub fn into_below(self) -> S
         ensures { result ≡ self.below }
     {
@@ -32,21 +37,33 @@ impl<S> Dispatch<S> {
     }
 }
 
+impl<S: WindowStore> Dispatch<S> {
+    // A lot's window as the layer shows it.
+    fn window(&self, place: usize) -> Option<Window>
+        ensures { result ≡ found (map (before_dispatch self.now.last) (S.WindowStore.windows self.now.below)) place }
+    {
+        let low = shown(self.last, self.below.high(place))?;
+        let high = shown(self.last, self.below.low(place))?;
+        Some(Window { low, high })
+    }
+}
+
 impl<S: WindowStore> WindowStore for Dispatch<S> {
-    ghost windows = { λ s. map (window_before_dispatch s.last) (S.WindowStore.windows s.below) };
+    ghost windows = { λ s. map (before_dispatch s.last) (S.WindowStore.windows s.below) };
 
-    ghost Footing = { S.WindowStore.Footing };
+    ghost memory = { λ s. S.WindowStore.memory s.below };
 
-    ghost footing = { λ s. S.WindowStore.footing s.below };
-
-    // a first day here is a last day below
-    ghost raised = { λ s place day. S.WindowStore.lowered s.below place (s.last - day) };
-
-    ghost lowered = { λ s place day. S.WindowStore.raised s.below place (s.last - day) };
+    ghost reached = { λ s ws. S.WindowStore.reached s.below (each (dispatch_window s.last) (S.WindowStore.windows s.below) ws) };
 
     ghost Frame = { ℕ × S.WindowStore.Frame };
 
     ghost frame = { λ s. (s.last, S.WindowStore.frame s.below) };
+
+    ghost here = { λ s. ap (S.WindowStore.reached s.below)
+        (each_same (before_dispatch s.last) (dispatch_window s.last)
+        (λ w. ap₂ window (where_same_same (until s.last w.low) _ _) (where_same_same (until s.last w.high) _ _))
+        (S.WindowStore.windows s.below))
+        ∙ S.WindowStore.here s.below };
 
     fn lots(&self) -> usize {
         self.below.lots()
@@ -60,27 +77,29 @@ impl<S: WindowStore> WindowStore for Dispatch<S> {
         shown(self.last, self.below.low(place))
     }
 
-    fn raise(&mut self, place: usize, day: u32) -> Result<(), StoreFault> {
-        match raising(self.low(place), self.high(place), day)? {
+    fn trim(&mut self, place: usize, days: HalfLine) -> Result<(), StoreFault> {
+        match judge(self.window(place), days)? {
             Step::Stays => Ok(()),
-            Step::Moves => self.below.lower(place, self.last - day),
-        }
-    }
-
-    fn lower(&mut self, place: usize, day: u32) -> Result<(), StoreFault> {
-        match lowering(self.low(place), self.high(place), day)? {
-            Step::Stays => Ok(()),
-            Step::Moves => self.below.raise(place, self.last - day),
+            Step::Moves(_) => self.below.trim(place, days_below(self.last, days)),
         }
     }
 }
 
-// A day, if there is one, as days before dispatch. Saturating on purpose: no day lies after dispatch, so a later one shows as 0.
-// Whatever list the day is the last day of a lot in, the answer is the first day that the layer shows there; and the other way round.
-// No `From`: what a day shows as depends on the layer's last day.
+// A day below, if there is one, as days before dispatch. Saturating on purpose: a day after dispatch shows as 0.
+// The clauses speak of every list that the day may be an end in: the layer shows it at the other end.
 fn shown(last: u32, day: Option<u32>) -> Option<u32>
-    ensures lows { (ws : List Window) (p : ℕ) → day ≡ high_at ws p → result ≡ low_at (map (window_before_dispatch last) ws) p }
-    ensures highs { (ws : List Window) (p : ℕ) → day ≡ low_at ws p → result ≡ high_at (map (window_before_dispatch last) ws) p }
+    ensures lows { (ws : List Window) (p : ℕ) → day ≡ high_at ws p → result ≡ low_at (map (before_dispatch last) ws) p }
+    ensures highs { (ws : List Window) (p : ℕ) → day ≡ low_at ws p → result ≡ high_at (map (before_dispatch last) ws) p }
 {
     Some(last.saturating_sub(day?))
+}
+
+// The days below that a half-line of days before dispatch stands for.
+fn days_below(last: u32, days: HalfLine) -> HalfLine
+    ensures { result ≡ dispatch_days last days }
+{
+    match days {
+        HalfLine::From(day) => HalfLine::UpTo(last.saturating_sub(day)),
+        HalfLine::UpTo(day) => HalfLine::From(last.saturating_sub(day)),
+    }
 }

@@ -60,6 +60,7 @@ fn lengths_of_a_period(rt: HostRuntime) -> Result<(), Fail> {
     assert_eq!(rt; PeriodLength::new(0), Err(PeriodFault::OutOfRange));
     assert_eq!(rt; PeriodLength::new(367), Err(PeriodFault::OutOfRange));
     assert_eq!(rt; PeriodFault::OutOfRange.number(), 10);
+    assert_eq!(rt; PeriodFault::OutOfRange.place(), 0);
     assert_eq!(rt; PeriodLength::new(1)?.days(), 1);
     assert_eq!(rt; PeriodLength::new(366)?.days(), 366);
     Ok(())
@@ -88,8 +89,8 @@ fn weeks_below_dispatch_on_masks(rt: HostRuntime) -> Result<(), Fail> {
     Ok(())
 }
 
-// What a pile over these days shows, what it answers when lot 0 is to rise to 6, and what its weeks show then. Generic, since a pile of lent memory with periods inside is not
-// covered yet where its whole type is written out.
+// What a pile over these days shows, what it answers when lot 0 is to rise to 6, and what its weeks show then.
+// Generic in the store at the bottom: with the pile's type written out over lent memory, no proof is made of it.
 fn below_dispatch<S: WindowStore + Drop>(
     days: S,
     week: PeriodLength,

@@ -1,13 +1,18 @@
 // The period layer: any store, read in periods of a fixed number of days, as weeks.
-ghost use Rattle.std.specs.Prelude.{◌≡◌, ℕ, ◌+◌, ◌-◌, ◌*◌, ◌^◌, ◌<◌, List, map, IfSome};
-ghost use Rattle.calendar.specs.Calendars.{in_periods};
-ghost use Rattle.store.specs.Windows.{low_at, high_at};
+ghost use Rattle.std.specs.Prelude.{◌≡◌, ℕ, ◌*◌, ◌^◌, ◌<◌, List, map, IfSome};
+ghost use Rattle.calendar.specs.Calendars.{period_of, in_periods, period_days, period_window, end_of};
+ghost use Rattle.std.proofs.Common.{ap, ap₂, ◌∙◌};
+ghost use Rattle.store.proofs.Each.{each_same, where_same_same};
+ghost use Rattle.store.specs.Each.{each};
+ghost use Rattle.store.specs.Windows.{window, found, low_at, high_at};
 ghost use Rattle.store.specs.declared.window.Window.{Window};
 
 use super::PeriodLength;
 use store::fault::StoreFault;
-use store::step::{Step, lowering, raising};
+use store::half_line::HalfLine;
+use store::step::{Step, judge};
 use store::store::WindowStore;
+use store::window::Window;
 
 #[derive(Drop)]
 pub struct Period<S> {
@@ -16,14 +21,14 @@ pub struct Period<S> {
 }
 
 impl<S> Period<S> {
-    // The store `below`, seen in periods of `length` days.
+    // The store `below` in periods of that length.
     pub fn new(below: S, length: PeriodLength) -> Period<S>
         ensures { (result.below ≡ below) × (result.length ≡ length) }
     {
         Period { below, length }
     }
 
-    // The store below, with the layer taken off.
+    // Takes the layer off.
     pub fn into_below(self) -> S
         ensures { result ≡ self.below }
     {
@@ -32,22 +37,34 @@ impl<S> Period<S> {
     }
 }
 
+impl<S: WindowStore> Period<S> {
+    // A lot's window as the layer shows it: the first day of its last period is a word.
+    fn window(&self, place: usize) -> Option<Window>
+        ensures value { result ≡ found (map (in_periods self.now.length.days) (S.WindowStore.windows self.now.below)) place }
+        ensures word { IfSome result (λ w. self.now.length.days * w.high < 2 ^ 32) }
+    {
+        let low = shown(self.length, self.below.low(place))?;
+        let high = shown(self.length, self.below.high(place))?;
+        Some(Window { low, high })
+    }
+}
+
 impl<S: WindowStore> WindowStore for Period<S> {
     ghost windows = { λ s. map (in_periods s.length.days) (S.WindowStore.windows s.below) };
 
-    ghost Footing = { S.WindowStore.Footing };
+    ghost memory = { λ s. S.WindowStore.memory s.below };
 
-    ghost footing = { λ s. S.WindowStore.footing s.below };
-
-    // from the first day of that period on
-    ghost raised = { λ s place period. S.WindowStore.raised s.below place (s.length.days * period) };
-
-    // up to the last day of that period
-    ghost lowered = { λ s place period. S.WindowStore.lowered s.below place (s.length.days * period + s.length.days - 1) };
+    ghost reached = { λ s ws. S.WindowStore.reached s.below (each (period_window s.length.days) (S.WindowStore.windows s.below) ws) };
 
     ghost Frame = { ℕ × S.WindowStore.Frame };
 
     ghost frame = { λ s. (s.length.days, S.WindowStore.frame s.below) };
+
+    ghost here = { λ s. ap (S.WindowStore.reached s.below)
+        (each_same (in_periods s.length.days) (period_window s.length.days)
+        (λ w. ap₂ window (where_same_same (period_of s.length.days w.low) _ _) (where_same_same (period_of s.length.days w.high) _ _))
+        (S.WindowStore.windows s.below))
+        ∙ S.WindowStore.here s.below };
 
     fn lots(&self) -> usize {
         self.below.lots()
@@ -57,37 +74,34 @@ impl<S: WindowStore> WindowStore for Period<S> {
         shown(self.length, self.below.low(place))
     }
 
-    // A period that is shown has its first day among the words.
-    fn high(&self, place: usize) -> Option<u32>
-        ensures value { result ≡ high_at (map (in_periods self.now.length.days) (S.WindowStore.windows self.now.below)) place }
-        ensures word { IfSome result (λ p. self.now.length.days * p < 2 ^ 32) }
-    {
+    fn high(&self, place: usize) -> Option<u32> {
         shown(self.length, self.below.high(place))
     }
 
-    fn raise(&mut self, place: usize, period: u32) -> Result<(), StoreFault> {
-        match raising(self.low(place), self.high(place), period)? {
+    fn trim(&mut self, place: usize, periods: HalfLine) -> Result<(), StoreFault> {
+        match judge(self.window(place), periods)? {
             Step::Stays => Ok(()),
-            Step::Moves => self.below.raise(place, self.length.days * period),
-        }
-    }
-
-    fn lower(&mut self, place: usize, period: u32) -> Result<(), StoreFault> {
-        match lowering(self.low(place), self.high(place), period)? {
-            Step::Stays => Ok(()),
-            Step::Moves => self
-                .below
-                .lower(place, self.length.days * period + self.length.days - 1),
+            Step::Moves(_) => self.below.trim(place, days_below(self.length, periods)),
         }
     }
 }
 
-// A day, if there is one, as the number of its period: the end that the layer shows of whatever list the day is an end in.
-// No `From`: what a day shows as depends on the layer's length.
+// The period of a day below, if there is one: that end of the window shown, whatever list the day is an end in.
 fn shown(length: PeriodLength, day: Option<u32>) -> Option<u32>
     ensures lows { (ws : List Window) (p : ℕ) → day ≡ low_at ws p → result ≡ low_at (map (in_periods length.days) ws) p }
     ensures highs { (ws : List Window) (p : ℕ) → day ≡ high_at ws p → result ≡ high_at (map (in_periods length.days) ws) p }
     ensures word { IfSome result (λ p. length.days * p < 2 ^ 32) }
 {
     Some(day? / length.days)
+}
+
+// The days below that a half-line of periods stands for: from a first day on, or up to a last one.
+fn days_below(length: PeriodLength, periods: HalfLine) -> HalfLine
+    requires { end_of (period_days length.days periods) < 2 ^ 32 }
+    ensures { result ≡ period_days length.days periods }
+{
+    match periods {
+        HalfLine::From(period) => HalfLine::From(length.days * period),
+        HalfLine::UpTo(period) => HalfLine::UpTo(length.days * period + (length.days - 1)),
+    }
 }
