@@ -28,10 +28,18 @@ pub fn make_calls<S: WindowStore>(
     answer: &mut [u32],
     work: &mut [u32],
 ) -> Result<(), SheetFault>
-    ensures runs { Checked (refuse ShortAnswer (length outcomes.old < length calls.now) ∷ []) result (λ _. RunsInto slip.now.lots slip.now.rules calls.now (state (S.WindowStore.windows store.old) book.old answer.old work.old) outcomes.old outcomes.new (state (S.WindowStore.windows store.new) book.new answer.new work.new)) ((store.new ≡ store.old) × (book.new ≡ book.old) × (outcomes.new ≡ outcomes.old) × (answer.new ≡ answer.old) × (work.new ≡ work.old)) }
-    ensures plans { IfOk result (λ _. PlansLeft (accepted calls.now outcomes.new) (sheet_of (S.WindowStore.windows store.old) book.old) (sheet_of (S.WindowStore.windows store.new) book.new)) }
-    ensures reach { Onward (S.WindowStore.reached store.old) (S.WindowStore.reached store.new) (S.WindowStore.windows store.new) }
-    ensures memory { S.WindowStore.memory store.new ≡ S.WindowStore.reached store.old (S.WindowStore.windows store.new) }
+    ensures runs { Checked (refuse ShortAnswer (length outcomes.old < length calls.now) ∷ []) result (λ _.
+        RunsInto slip.now.lots slip.now.rules calls.now (state (S.WindowStore.windows store.old)
+        book.old answer.old work.old) outcomes.old outcomes.new (state (S.WindowStore.windows
+        store.new) book.new answer.new work.new)) ((store.new ≡ store.old) × (book.new ≡ book.old) ×
+        (outcomes.new ≡ outcomes.old) × (answer.new ≡ answer.old) × (work.new ≡ work.old)) }
+    ensures plans { IfOk result (λ _. PlansLeft (accepted calls.now outcomes.new) (sheet_of
+        (S.WindowStore.windows store.old) book.old) (sheet_of (S.WindowStore.windows store.new)
+        book.new)) }
+    ensures reach { Onward (S.WindowStore.reached store.old) (S.WindowStore.reached store.new)
+        (S.WindowStore.windows store.new) }
+    ensures memory { S.WindowStore.memory store.new ≡ S.WindowStore.reached store.old
+        (S.WindowStore.windows store.new) }
     ensures framed { S.WindowStore.frame store.new ≡ S.WindowStore.frame store.old }
 {
     if outcomes.len() < calls.len() {
@@ -52,9 +60,13 @@ pub fn make_call<S: WindowStore>(
     answer: &mut [u32],
     work: &mut [u32],
 ) -> Outcome
-    ensures makes { Makes slip.now.lots slip.now.rules call (state (S.WindowStore.windows store.old) book.old answer.old work.old) result (state (S.WindowStore.windows store.new) book.new answer.new work.new) }
-    ensures reach { Onward (S.WindowStore.reached store.old) (S.WindowStore.reached store.new) (S.WindowStore.windows store.new) }
-    ensures memory { S.WindowStore.memory store.new ≡ S.WindowStore.reached store.old (S.WindowStore.windows store.new) }
+    ensures makes { Makes slip.now.lots slip.now.rules call
+        (state (S.WindowStore.windows store.old) book.old answer.old work.old) result
+        (state (S.WindowStore.windows store.new) book.new answer.new work.new) }
+    ensures reach { Onward (S.WindowStore.reached store.old) (S.WindowStore.reached store.new)
+        (S.WindowStore.windows store.new) }
+    ensures memory { S.WindowStore.memory store.new ≡ S.WindowStore.reached store.old
+        (S.WindowStore.windows store.new) }
     ensures framed { S.WindowStore.frame store.new ≡ S.WindowStore.frame store.old }
 {
     match call {

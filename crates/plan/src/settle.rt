@@ -28,10 +28,14 @@ pub fn settle<S: WindowStore>(
     book: &mut Book,
     work: &mut [u32],
 ) -> Result<(), SheetFault>
-    ensures settles { Settles (length work.old) slip.now.lots slip.now.rules (S.WindowStore.windows store.old) book.old result (S.WindowStore.windows store.new) book.new }
-    ensures exactly { NoneExactly (length work.old) slip.now.lots slip.now.rules (S.WindowStore.windows store.old) book.old result }
-    ensures reach { Onward (S.WindowStore.reached store.old) (S.WindowStore.reached store.new) (S.WindowStore.windows store.new) }
-    ensures memory { S.WindowStore.memory store.new ≡ S.WindowStore.reached store.old (S.WindowStore.windows store.new) }
+    ensures settles { Settles (length work.old) slip.now.lots slip.now.rules (S.WindowStore.windows store.old)
+        book.old result (S.WindowStore.windows store.new) book.new }
+    ensures exactly { NoneExactly (length work.old) slip.now.lots slip.now.rules (S.WindowStore.windows store.old)
+        book.old result }
+    ensures reach { Onward (S.WindowStore.reached store.old) (S.WindowStore.reached store.new)
+        (S.WindowStore.windows store.new) }
+    ensures memory { S.WindowStore.memory store.new ≡ S.WindowStore.reached store.old
+        (S.WindowStore.windows store.new) }
     ensures framed { S.WindowStore.frame store.new ≡ S.WindowStore.frame store.old }
     ensures cleared { Cleared work.old work.new }
 {
@@ -48,8 +52,11 @@ fn settle_on<S: WindowStore>(
     book: &mut Book,
     words: &mut [u32],
 ) -> Result<(), SheetFault>
-    ensures settles { SettlesBy (lent_checks slip.now.lots slip.now.rules (S.WindowStore.windows store.old) book.old) (S.WindowStore.windows store.old) book.old result (S.WindowStore.windows store.new) book.new }
-    ensures reach { Onward (S.WindowStore.reached store.old) (S.WindowStore.reached store.new) (S.WindowStore.windows store.new) }
+    ensures settles { SettlesBy
+        (lent_checks slip.now.lots slip.now.rules (S.WindowStore.windows store.old) book.old)
+        (S.WindowStore.windows store.old) book.old result (S.WindowStore.windows store.new) book.new }
+    ensures reach { Onward (S.WindowStore.reached store.old) (S.WindowStore.reached store.new)
+        (S.WindowStore.windows store.new) }
     ensures framed { S.WindowStore.frame store.new ≡ S.WindowStore.frame store.old }
     ensures zero { (k : ℕ) → k < length words.new → slice_index words.new k ≡ 0 }
     ensures each { length words.new ≡ length words.old }
@@ -66,8 +73,10 @@ fn settle_problem<S: WindowStore>(
     mut problem: Problem,
 ) -> Result<(), SheetFault>
     requires { sheet_in problem ≡ sheet_of (S.WindowStore.windows store.old) book.old }
-    ensures settles { SettlesBy [] (S.WindowStore.windows store.old) book.old result (S.WindowStore.windows store.new) book.new }
-    ensures reach { Onward (S.WindowStore.reached store.old) (S.WindowStore.reached store.new) (S.WindowStore.windows store.new) }
+    ensures settles { SettlesBy [] (S.WindowStore.windows store.old) book.old result
+        (S.WindowStore.windows store.new) book.new }
+    ensures reach { Onward (S.WindowStore.reached store.old) (S.WindowStore.reached store.new)
+        (S.WindowStore.windows store.new) }
     ensures framed { S.WindowStore.frame store.new ≡ S.WindowStore.frame store.old }
 {
     let Ok(()) = propagate_all(&mut problem) else {
@@ -97,7 +106,8 @@ fn put_window<S: WindowStore>(store: &mut S, lot: usize, window: Window)
     requires inside { Narrower window (window_at (S.WindowStore.windows store.old) lot) }
     requires sound { Sound window }
     ensures moved { S.WindowStore.windows store.new ≡ slice_set (S.WindowStore.windows store.old) lot window }
-    ensures reach { Onward (S.WindowStore.reached store.old) (S.WindowStore.reached store.new) (S.WindowStore.windows store.new) }
+    ensures reach { Onward (S.WindowStore.reached store.old) (S.WindowStore.reached store.new)
+        (S.WindowStore.windows store.new) }
     ensures framed { S.WindowStore.frame store.new ≡ S.WindowStore.frame store.old }
 {
     let _ = store.raise(lot, window.low);

@@ -34,7 +34,8 @@ pub(crate) fn go_on(problem: &mut Problem, lot: usize) -> Result<(), Infeasible>
     requires firm { Firm (sheet_in problem.old) }
     requires there { lot < length (sheet_in problem.old).windows }
     requires failed { NoPlan (fixed lot (sheet_in problem.old)) }
-    ensures raised { MatchResult result (λ _. Raised (sheet_in problem.old) (sheet_in problem.new)) (λ _. NoPlan (sheet_in problem.old)) }
+    ensures raised { MatchResult result (λ _. Raised (sheet_in problem.old) (sheet_in problem.new))
+        (λ _. NoPlan (sheet_in problem.old)) }
     ensures lots { lots_in problem.new ≡ lots_in problem.old }
 {
     let day = next_day(problem, lot);

@@ -13,7 +13,8 @@ use store::window::Window;
 
 // Do the first days of all windows keep every rule?
 pub fn lows_keep(problem: &Problem) -> bool
-    ensures { Decides result (AllByRecursion (Keeps (lows (sheet_in problem.now).windows)) (sheet_in problem.now).rules) }
+    ensures { Decides result (AllByRecursion (Keeps (lows (sheet_in problem.now).windows)) (sheet_in
+        problem.now).rules) }
 {
     let windows = problem.windows();
     let mut room = [0; LOTS];

@@ -11,7 +11,8 @@ use store::window::Window;
 // Of the lots with a choice one with the smallest width for each rule over it, so that few tries tell most (in the
 // field, smallest domain over degree); those under no rule come last. Which of them it is, is speed and no promise.
 pub(crate) fn tightest(problem: &Problem) -> Option<usize>
-    ensures { MatchOption result (AllByRecursion Single (sheet_in problem.now).windows) (Open (sheet_in problem.now).windows) }
+    ensures { MatchOption result (AllByRecursion Single (sheet_in problem.now).windows)
+        (Open (sheet_in problem.now).windows) }
 {
     let windows = problem.windows();
     let mut best = first_open(windows)?;

@@ -10,7 +10,8 @@ use propagation::queue::Queue;
 
 // The rules whose stretch has the lot, and no others.
 pub fn rules_over(problem: &Problem, lot: usize) -> Queue
-    ensures { (k : ℕ) → k < length (sheet_in problem.now).rules → waits result k ≡ false → Over (rule_at (sheet_in problem.now).rules k).stretch lot → ⊥ }
+    ensures { (k : ℕ) → k < length (sheet_in problem.now).rules → waits result k ≡ false → Over
+        (rule_at (sheet_in problem.now).rules k).stretch lot → ⊥ }
 {
     let mut queue = Queue::none();
     for (number, row) in problem.rows().iter().enumerate() {
