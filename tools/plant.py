@@ -69,10 +69,14 @@ def changes(line, following):
 def candidates(crate):
     """All bugs, each with the function that it stands in."""
     for path in sorted((crate / "src").rglob("*.rt")):
-        function, lines = "", path.read_text().split("\n")
+        function, lines, braces = "", path.read_text().split("\n"), 0
         for number, line in enumerate(lines):
             if line.strip() == "#[cfg(test)]":
                 break
+            # a clause may go on over several lines, to the brace that ends it
+            if braces > 0 or re.match(r"\s*(requires|ensures|ghost)\b", line):
+                braces += line.count("{") - line.count("}")
+                continue
             began = FUNCTION.match(line)
             if began:
                 function = began.group(1)
