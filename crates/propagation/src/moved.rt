@@ -9,7 +9,7 @@ use crate::queue::Queue;
 use nvalue::stretch::Stretch;
 use store::window::Window;
 
-// Queues the rules, but for the one with this number, of which a window moves where the lots from `first` on get these.
+// Queues the rules, but for the one with this number, of which a window moves where lots from `first` on get these.
 pub(crate) fn wake(
     problem: &Problem,
     number: usize,
@@ -27,7 +27,7 @@ pub(crate) fn wake(
     }
 }
 
-// Does each window of the stretch stay? Only lots that both have are compared.
+// Does each window of the stretch stay? Only lots that both have are compared. A `false` too many costs only time.
 fn stays(windows: &[Window], first: usize, new: &[Window], stretch: Stretch) -> bool
     requires within { first + length new.now ≤ length windows.now }
     requires there { stretch.first + stretch.length ≤ length windows.now }
