@@ -1,2 +1,2 @@
 pub mod Answered
-pub mod Crowded
+pub mod Violated

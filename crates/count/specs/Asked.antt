@@ -48,7 +48,29 @@ MostShown ws first was is m = MostAnswer ws was is m.count m.runs
 
 -- A question about a stretch that has these checks answers `r`, and the answer words are `is` in place of `was`: what
 -- it answers holds of the windows of the stretch; refused, the answer words stay.
-abbrev pub Asks : {C : Type 0} → (List Window → ℕ → List ℕ → List ℕ → C → Type 0) → List (CountFault → Type 0)
+abbrev pub Answered : {C : Type 0} → (List Window → ℕ → List ℕ → List ℕ → C → Type 0) → List (CountFault → Type 0)
     → List Window → Stretch → List ℕ → Result C CountFault → List ℕ → Type 0
-Asks Answers checks ws s was r is =
+Answered Answers checks ws s was r is =
     Checked checks r (λ m. Answers (part ws s.first s.length) s.first was is m) (is ≡ was)
+
+-- the same where the working words are at hand
+abbrev pub AnsweredLent : {C : Type 0} → (List Window → ℕ → List ℕ → List ℕ → C → Type 0)
+    → List Window → Stretch → List ℕ → Result C CountFault → List ℕ → Type 0
+AnsweredLent Answers ws s was r is = Answered Answers (lent_checks ws s (length was)) ws s was r is
+
+-- and where the windows are sound
+abbrev pub AnsweredOf : {C : Type 0} → (List Window → ℕ → List ℕ → List ℕ → C → Type 0)
+    → List Window → Stretch → List ℕ → Result C CountFault → List ℕ → Type 0
+AnsweredOf Answers ws s was r is = Answered Answers (stretch_checks (length ws) s (length was)) ws s was r is
+
+-- a question over the windows ws, with these working words
+abbrev pub Asks : {C : Type 0} → (List Window → ℕ → List ℕ → List ℕ → C → Type 0)
+    → List Window → Stretch → List ℕ → List ℕ → Result C CountFault → List ℕ → Type 0
+Asks Answers ws s work was r is = Answered Answers (count_checks (length work) ws s (length was)) ws s was r is
+
+-- the two questions
+abbrev pub AsksFewest : List Window → Stretch → List ℕ → List ℕ → Result ℕ CountFault → List ℕ → Type 0
+AsksFewest ws s work was r is = Asks FewestAnswer ws s work was r is
+
+abbrev pub AsksMost : List Window → Stretch → List ℕ → List ℕ → Result Most CountFault → List ℕ → Type 0
+AsksMost ws s work was r is = Asks MostShown ws s work was r is

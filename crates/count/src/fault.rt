@@ -13,7 +13,7 @@ pub enum CountFault {
     TooManyLots,
     // the first lot whose window is empty or has a day above 9,999
     FaultyWindow(usize),
-    // a length of 0, or a stretch past the last lot
+    // a stretch of no lots, or one that goes past the end
     NoSuchStretch,
     // fewer than 2 answer words a lot
     ShortAnswer,

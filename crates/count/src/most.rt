@@ -1,7 +1,7 @@
 // The most different days of a stretch, over any store.
 ghost use Rattle.std.specs.Prelude.{◌≡◌, ◌+◌, ◌*◌, ◌<◌, length};
 ghost use Rattle.store.specs.Pairs.{paired};
-ghost use Rattle.count.specs.Asked.{Asks, MostShown, count_checks};
+ghost use Rattle.count.specs.Asked.{AsksMost, MostShown};
 ghost use Rattle.guard.specs.Cleared.{Cleared};
 
 use crate::fault::CountFault;
@@ -13,16 +13,17 @@ use nvalue::stretch::Stretch;
 use store::store::WindowStore;
 use store::window::Window;
 
-// The greatest count of any choice for a stretch, and a number of runs. The answer words get a choice with that count, one word a lot, then the runs as first and
-// last day. The runs share no day, each contains more windows than it has days, and these surpluses add up to the lots less the count: so no choice has more
-// days. Which choice and which runs, and their order, is free.
+// The greatest count that a choice for a stretch can have, and how many runs prove it. Into the answer words go the days
+// of such a choice, lot by lot, and behind them each run's first and last day. No two runs have a day in common, each is
+// violated, and the surpluses of all of them are the lots that the count falls short by: hence nobody has more days.
+// Which choice, which runs and in what order is free.
 pub fn most<S: WindowStore>(
     store: &S,
     stretch: Stretch,
     answer: &mut [u32],
     work: &mut [u32],
 ) -> Result<Most, CountFault>
-    ensures asked { Asks MostShown (count_checks (length work.old) (S.WindowStore.windows store.now) stretch (length answer.old)) (S.WindowStore.windows store.now) stretch answer.old result answer.new }
+    ensures asked { AsksMost (S.WindowStore.windows store.now) stretch work.old answer.old result answer.new }
     ensures cleared { Cleared work.old work.new }
 {
     ask::<GreatestCount, S>(store, stretch, answer, work)

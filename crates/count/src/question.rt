@@ -4,7 +4,7 @@ ghost use Rattle.std.specs.Prelude.{◌≡◌, ℕ, ◌*◌, ◌<◌, ◌≤◌,
 ghost use Rattle.store.specs.declared.window.Window.{Window};
 ghost use Rattle.store.specs.Checks.{Checked};
 ghost use Rattle.nvalue.specs.Choices.{part};
-ghost use Rattle.count.specs.Asked.{Asks, count_checks, lent_checks, stretch_checks};
+ghost use Rattle.count.specs.Asked.{AnsweredLent, AnsweredOf, Asks};
 ghost use Rattle.guard.specs.Cleared.{Cleared};
 
 use crate::fault::CountFault;
@@ -37,7 +37,7 @@ pub(crate) fn ask<Q: Question, S: WindowStore>(
     answer: &mut [u32],
     work: &mut [u32],
 ) -> Result<Q::Count, CountFault>
-    ensures asked { Asks Q.Question.Answers (count_checks (length work.old) (S.WindowStore.windows store.now) stretch (length answer.old)) (S.WindowStore.windows store.now) stretch answer.old result answer.new }
+    ensures asked { Asks Q.Question.Answers (S.WindowStore.windows store.now) stretch work.old answer.old result answer.new }
     ensures cleared { Cleared work.old work.new }
 {
     if work.len() < WORDS {
@@ -54,7 +54,7 @@ fn ask_on<Q: Question, S: WindowStore>(
     words: &mut [u32],
 ) -> Result<Q::Count, CountFault>
     requires { length words.old ≡ 4096 }
-    ensures asked { Asks Q.Question.Answers (lent_checks (S.WindowStore.windows store.now) stretch (length answer.old)) (S.WindowStore.windows store.now) stretch answer.old result answer.new }
+    ensures asked { AnsweredLent Q.Question.Answers (S.WindowStore.windows store.now) stretch answer.old result answer.new }
     ensures zero { (k : ℕ) → k < length words.new → slice_index words.new k ≡ 0 }
 {
     let guard = Guard { words };
@@ -75,7 +75,7 @@ fn ask_of<Q: Question>(
 ) -> Result<Q::Count, CountFault>
     requires few { length season.windows.now ≤ 256 }
     requires scratch { 256 ≤ length scratch.old }
-    ensures { Asks Q.Question.Answers (stretch_checks (length season.entry.windows.now) stretch (length answer.old)) season.entry.windows.now stretch answer.old result answer.new }
+    ensures { AnsweredOf Q.Question.Answers season.entry.windows.now stretch answer.old result answer.new }
 {
     if !stretch.lies_within(season.windows.len()) {
         return Err(CountFault::NoSuchStretch);

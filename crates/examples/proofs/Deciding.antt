@@ -6,7 +6,7 @@ use Rattle.store.specs.declared.window.Window.{Window}
 use Rattle.store.specs.Windows.{window, window_at, moves}
 use Rattle.base_stores.specs.Masks.{window_of_mask, filled}
 use Rattle.calendar.specs.Calendars.{window_before_dispatch, in_periods}
-use Rattle.nvalue.specs.Choices.{Choice, Crowded, Disjoint, ShareNoDay, load, size, surplus}
+use Rattle.nvalue.specs.Choices.{Choice, Violated, Disjoint, ShareNoDay, load, size, surplus}
 use Rattle.nvalue.specs.Nvalue.{nvalue}
 use Rattle.rules.specs.declared.row.Row.{Row}
 use Rattle.rules.specs.Plans.{Earlier, Earliest, Keeps, NoPlan, stretch}
@@ -301,7 +301,7 @@ greatest_so ws runs m e =
         choice = found.1;
         count = eqb-true (nvalue found.0) m found.2;
         disjoint = are_disjoint runs f.0;
-        crowded = one_by_one (λ run. nat_lt (size run) (load run ws)) (Crowded ws) runs (λ run h. leb-true (suc (size run)) (load run ws) h) f.1;
+        violated = one_by_one (λ run. nat_lt (size run) (load run ws)) (Violated ws) runs (λ run h. leb-true (suc (size run)) (load run ws) h) f.1;
         adds_up = eqb-true (m + surplus ws runs) (length ws) d.1;
         greatest = λ ds k. leb-true (nvalue ds) m (every_at ws (λ es. nat_le (nvalue es) m) ds c.1 k);
       },

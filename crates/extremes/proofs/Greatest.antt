@@ -1,4 +1,4 @@
--- A packing of all lots shows the greatest count: its days are a choice with that count, and its runs are crowded by the lots left over.
+-- A packing of all lots shows the greatest count: its days are a choice with that count, and its runs are violated by the lots left over.
 use Rattle.std.proofs.Common.{◌≡◌, ℕ, suc, ◌+◌, ◌<◌, ◌≤◌, Bool, true, false, cond, List, [], ◌∷◌, length, get_or, take, sum_by, sym, refl, ap, ◌∙◌, subst, arith}
 use Rattle.std.specs.List.Sorted.{IsPermutation}
 use Rattle.std.specs.List.{ContainsAt as Has, AllByRecursion}
@@ -8,9 +8,9 @@ use Rattle.std.proofs.lemmas.List.Sums.{get_or-le-sum_by, sum_by-cons}
 use Rattle.std.proofs.lemmas.Bool.Decides.{nat_tests}
 use Rattle.store.specs.declared.window.Window.{Window}
 use Rattle.store.specs.Windows.{window, window_at}
-use Rattle.nvalue.specs.Choices.{In, Choice, ShareNoDay, Disjoint, size, load, Crowded, surplus}
+use Rattle.nvalue.specs.Choices.{In, Choice, Disjoint, size, load, Violated, surplus}
 use Rattle.nvalue.specs.Nvalue.{has, nvalue}
-use Rattle.nvalue.proofs.Bounds.{crowded_bound, nvalue_at_least}
+use Rattle.nvalue.proofs.Bounds.{disjoint_rising, nvalue_at_least, violated_bound}
 use Rattle.nvalue.proofs.Choices.{choice_from_get_or}
 use Rattle.nvalue.proofs.Nvalue.{has_from, nvalue_le_length, nvalue_mono, within_members}
 use Rattle.extremes.specs.declared.matching.Most.{Most}
@@ -45,14 +45,6 @@ full_load : (run : Window) (ts : List Taker) → ((e : ℕ) → run.low ≤ e �
 full_load run ts f =
     let n = nvalue_at_least (within run ts) (size run) (λ i. run.low + i) (λ i j a b e. omega arith) (λ i l. f (run.low + i) (omega arith) (omega arith)) in
     omega (arith, nvalue_le_length (within run ts), length_within run ts)
-
--- runs that rise share no day
-disjoint_rising : (rs : List Window) → ((j k : ℕ) → j < k → k < length rs → (window_at rs j).high < (window_at rs k).low) → Disjoint rs
-disjoint_rising [] f = tt
-disjoint_rising (r ∷ rs) f = (
-  All-from_get_or (ShareNoDay r) rs (window 0 0) (λ i l d a b. omega (arith, f 0 (suc i) (omega arith) (omega arith))),
-  disjoint_rising rs (λ j k a b. f (suc j) (suc k) (omega arith) (omega arith)),
-)
 
 -- one window more adds to the loads of the runs that it lies in
 loads_more : (rs : List Window) (w : Window) (os : List Window) → sum_by (λ r. load r (w ∷ os)) rs ≡ sum_by (λ r. cond (inside r w) 1 0) rs + sum_by (λ r. load r os) rs
@@ -89,8 +81,8 @@ module _ (ws : List Window) (order : List (ℕ × ℕ)) (shuffled : IsPermutatio
       let s = full_load r p.takers (p.packed.full k l).0 in
       omega (arith, total (λ w. cond (inside r w) 1 0), load_sum r ws, load_sum r p.overs, load_sum r (windows_of p.takers))
 
-  runs_crowded : AllByRecursion (Crowded ws) (take most.runs runs)
-  runs_crowded = runs_all (Crowded ws) (λ k l. omega (arith, loaded k l, (p.packed.full k l).1))
+  runs_crowded : AllByRecursion (Violated ws) (take most.runs runs)
+  runs_crowded = runs_all (Violated ws) (λ k l. omega (arith, loaded k l, (p.packed.full k l).1))
 
   runs_disjoint : Disjoint (take most.runs runs)
   runs_disjoint =
@@ -139,12 +131,12 @@ module _ (ws : List Window) (order : List (ℕ × ℕ)) (shuffled : IsPermutatio
   pub packing_shows : Greatest ws days (take most.runs runs) most.count
   packing_shows =
       let rs = take most.runs runs in
-      let bound : (ds : List ℕ) → Choice ws ds → nvalue ds + surplus ws rs ≤ length ws = λ ds c. crowded_bound ws rs ds c runs_disjoint runs_crowded in
+      let bound : (ds : List ℕ) → Choice ws ds → nvalue ds + surplus ws rs ≤ length ws = λ ds c. violated_bound ws rs ds c runs_disjoint runs_crowded in
       record {
         choice = days_choice;
         count = days_count;
         disjoint = runs_disjoint;
-        crowded = runs_crowded;
+        violated = runs_crowded;
         adds_up = omega (arith, bound days days_choice, days_count, overs_surplus, total_length, p.count);
         greatest = λ ds c. omega (arith, bound ds c, overs_surplus, total_length, p.count);
       }

@@ -34,10 +34,6 @@ choice_mirrored [] (d ∷ ds) c = absurd c
 choice_mirrored (w ∷ ws) [] c = absurd c
 choice_mirrored (w ∷ ws) (d ∷ ds) c = ((omega (arith, c.0.1), omega (arith, c.0.0)), choice_mirrored ws ds c.1)
 
-pub days_twice : (ds : List ℕ) → AllByRecursion (λ d. d ≤ 9999) ds → map flip (map flip ds) ≡ ds
-days_twice [] b = refl
-days_twice (d ∷ ds) b = let e : flip (flip d) ≡ d = omega (arith, b.0) in ap₂ (λ x xs. x ∷ xs) e (days_twice ds b.1)
-
 has_mirrored : (x : ℕ) (ds : List ℕ) → x ≤ 9999 → AllByRecursion (λ d. d ≤ 9999) ds → has (flip x) (map flip ds) ≡ has x ds
 has_mirrored x [] h b = refl
 has_mirrored x (d ∷ ds) h b = let rest = has_mirrored x ds h b.1 in let l = b.0 in grind (arith, nat_tests)

@@ -12,7 +12,7 @@ use Rattle.nvalue.specs.Choices.{In, load}
 use Rattle.nvalue.specs.Nvalue.{has, nvalue}
 use Rattle.nvalue.proofs.Nvalue.{has_le_one}
 use Rattle.extremes.specs.Orders.{slots}
-use Rattle.extremes.specs.Turns.{Taken, Free}
+use Rattle.extremes.specs.Flags.{Set, Unset}
 use Rattle.extremes.proofs.Orders.{length_order, slot_there}
 
 -- a lot that has taken a day: its window, and the day
@@ -79,7 +79,7 @@ pub record Packed (taken : List Bool) (runs : List Window) (top : ℕ) (ts : Lis
 
 -- a lot takes the first free day of its window
 module _ (taken : List Bool) (runs : List Window) (top : ℕ) (ts : List Taker) (os : List Window) (last : ℕ) (p : Packed taken runs top ts os last) (w : Window) (later : last ≤ w.high) where
-  pub packed_takes : (d : ℕ) → d < length taken → Free taken d → ((e : ℕ) → w.low ≤ e → e < d → Taken taken e) → Packed (set taken d true) runs top ((w, d) ∷ ts) os w.high
+  pub packed_takes : (d : ℕ) → d < length taken → Unset taken d → ((e : ℕ) → w.low ≤ e → e < d → Set taken e) → Packed (set taken d true) runs top ((w, d) ∷ ts) os w.high
   packed_takes d l free first = record {
     marks = λ e.
         let m = p.marks e in
@@ -97,7 +97,7 @@ module _ (taken : List Bool) (runs : List Window) (top : ℕ) (ts : List Taker) 
   }
 
   -- no day of the window is free: the run of taken days from `start` to the window's last day is put in the place of the runs from `top'` on
-  module _ (start top' : ℕ) (room : top' < length runs) (wide : start ≤ w.low) (taken_all : (d : ℕ) → start ≤ d → d ≤ w.high → Taken taken d) (edge : 0 < start → Free taken (start - 1)) where
+  module _ (start top' : ℕ) (room : top' < length runs) (wide : start ≤ w.low) (taken_all : (d : ℕ) → start ≤ d → d ≤ w.high → Set taken d) (edge : 0 < start → Unset taken (start - 1)) where
     edge_free : 0 < start → has (start - 1) (days_of ts) ≡ 0
     edge_free h = let f = edge h in let m = p.marks (start - 1) in grind arith
 

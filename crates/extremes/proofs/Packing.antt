@@ -1,11 +1,10 @@
 -- The packing of lots into days: what stands after so many turns, at the start and after one turn more.
-use Rattle.std.proofs.Common.{◌≡◌, ℕ, ◌+◌, ◌<◌, ◌≤◌, Bool, true, false, cond, eqb, List, [], ◌∷◌, length, get_or, take, set, replicate, sum_by, refl, sym, ap, ◌∙◌, subst, inl, inr, arith}
+use Rattle.std.proofs.Common.{◌≡◌, ℕ, ◌+◌, ◌<◌, ◌≤◌, Bool, true, cond, eqb, List, drop, [], ◌∷◌, length, get_or, take, set, sum_by, refl, sym, ap, ◌∙◌, subst, inl, inr, arith}
 use Rattle.std.specs.List.Sorted.{IsNonDecreasingBy, IsPermutation}
 use Rattle.std.specs.List.{AllByRecursion}
 use Rattle.std.proofs.ByRecursion.{All-get_or}
-use Rattle.std.proofs.lemmas.List.{get_or_past, get_or-replicate, length-replicate, length-set}
+use Rattle.std.proofs.lemmas.List.{length-set}
 use Rattle.std.proofs.lemmas.List.Sums.{sum_by-cons, sum_by_more}
-use Rattle.std.proofs.lemmas.Bool.{cases_lt}
 use Rattle.std.proofs.lemmas.Bool.Decides.{nat_tests}
 use Rattle.store.specs.declared.window.Window.{Window}
 use Rattle.store.specs.Windows.{window, window_at}
@@ -14,7 +13,9 @@ use Rattle.nvalue.specs.Nvalue.{has}
 use Rattle.extremes.specs.declared.matching.Most.{Most}
 use Rattle.extremes.specs.Orders.{slots}
 use Rattle.store.specs.Sound.{Sound}
-use Rattle.extremes.specs.Turns.{EndBefore, Free, Takes, LeftOver, Turn}
+use Rattle.std.proofs.lemmas.List.{drop-set-lt}
+use Rattle.extremes.specs.Flags.{Unset}
+use Rattle.extremes.specs.Turns.{EndBefore, Takes, LeftOver, Turn}
 use Rattle.extremes.proofs.Orders.{length_order, slot_apart, slot_high, slot_there}
 use Rattle.extremes.proofs.Packed.{Taker, days_of, windows_of, Packed, packed_takes, packed_leaves, Chosen, chosen_more, lot_in_file}
 
@@ -32,12 +33,8 @@ pub record Packing (ws : List Window) (order : List (ℕ × ℕ)) (t : ℕ) (tak
   pub sums : (f : Window → ℕ) → sum_by f (windows_of takers) + sum_by f overs ≡ sum_by (λ s. f (window_at ws s.1)) (take t order)
   pub ahead : (k : ℕ) → t ≤ k → k < length order → last ≤ (get_or order k (0, 0)).0
 
--- in a room of cleared flags no day is taken
-pub none_taken : (n d : ℕ) → Free (replicate n false) d
-none_taken n d = elim (cases_lt d n) [ inl l ↦ get_or-replicate n d false false l | inr l ↦ get_or_past (replicate n false) d false (omega (arith, length-replicate n false)) ]
-
 -- before the first turn no day is taken
-pub packing_none : (ws : List Window) (order : List (ℕ × ℕ)) (taken : List Bool) (days : List ℕ) (runs : List Window) → ((d : ℕ) → Free taken d) → EndBefore (length taken) ws
+pub packing_none : (ws : List Window) (order : List (ℕ × ℕ)) (taken : List Bool) (days : List ℕ) (runs : List Window) → ((d : ℕ) → Unset taken d) → EndBefore (length taken) ws
     → Packing ws order 0 taken days runs (record { count = 0; runs = 0 })
 packing_none ws order taken days runs free ends = record {
   takers = [];
@@ -127,3 +124,8 @@ module _ (ws : List Window) (order : List (ℕ × ℕ)) (shuffled : IsPermutatio
   pub packing_more : Turn (window_at ws (lot_in_file order t)) day taken runs most taken' runs' most' → Packing ws order (t + 1) taken' (set days (lot_in_file order t) day) runs' most'
   packing_more (inl x) = packing_takes x
   packing_more (inr x) = packing_leaves x
+
+  -- a turn writes no run past the lots
+  pub packing_rest : Turn (window_at ws (lot_in_file order t)) day taken runs most taken' runs' most' → drop (length ws) runs' ≡ drop (length ws) runs
+  packing_rest (inl x) = ap (drop (length ws)) x.same
+  packing_rest (inr x) = ap (drop (length ws)) x.pushed ∙ drop-set-lt (length ws) runs x.kept _ (omega (arith, x.fewer, p.room))

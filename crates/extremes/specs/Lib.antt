@@ -1,5 +1,6 @@
+pub mod Flags
 pub mod Mirror
 pub mod Orders
-pub mod Points
 pub mod Shown
+pub mod Stabbing
 pub mod Turns

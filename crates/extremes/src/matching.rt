@@ -1,15 +1,16 @@
-// The most different days of a list of windows: a matching of lots to days, in which lots in the order of their last days take the earliest free day of their window.
-ghost use Rattle.std.specs.Prelude.{◌≡◌, ℕ, ◌+◌, ◌-◌, ◌<◌, ◌≤◌, true, length, take};
-ghost use Rattle.std.specs.List.Sorted.{IsNonDecreasingBy, IsPermutation};
-ghost use Rattle.store.specs.Windows.{window_at};
-ghost use Rattle.extremes.specs.Orders.{slots};
-ghost use Rattle.extremes.specs.Shown.{Greatest};
+// The most different days of a list of windows: a matching of lots to days, in which lots in the order of their last
+// days take the earliest free day of their window.
+ghost use Rattle.std.specs.Prelude.{◌≡◌, ℕ, ◌-◌, ◌<◌, ◌≤◌, Decides, length, drop};
 ghost use Rattle.store.specs.Sound.{Sound};
-ghost use Rattle.extremes.specs.Turns.{EndBefore, Taken, Free, Turn};
+ghost use Rattle.store.specs.Windows.{window_at};
+ghost use Rattle.extremes.specs.Flags.{Set, Unset};
+ghost use Rattle.extremes.specs.Orders.{ByLastDay};
+ghost use Rattle.extremes.specs.Shown.{MostOf};
+ghost use Rattle.extremes.specs.Turns.{EndBefore, Turn};
 
 use crate::order::{Slot, by_last_day};
-use store::limits::DAYS;
 use nvalue::season::{ROOM, Season};
+use store::limits::DAYS;
 use store::window::Window;
 
 // The greatest count, and how many runs show it.
@@ -22,13 +23,15 @@ pub struct Most {
 // A room for this many days is enough for most seasons, and is cleared sooner than one for all days.
 pub const SHORT: usize = 512;
 
-// Writes a choice with the most different days, and the runs that show that no choice has more.
+// Writes a choice with the most different days, and the runs that show that no choice has more. Past those runs, up to
+// as many as there are lots, the room is scratch.
 // That `days` is as long as the season is a clause: the two come from different hands, so no one type can hold both.
 pub fn most_of(season: Season, days: &mut [u32], runs: &mut [Window]) -> Most
     requires day_each { length days.old ≡ length season.windows.now }
     requires run_room { length season.windows.now ≤ length runs.old }
-    ensures shown { Greatest season.entry.windows.now days.new (take result.runs runs.new) result.count }
-    ensures room { result.runs ≤ length runs.new }
+    ensures shown { MostOf season.entry.windows.now days.new runs.new result }
+    ensures room { result.runs ≤ length season.entry.windows.now }
+    ensures rest { drop (length season.entry.windows.now) runs.new ≡ drop (length season.entry.windows.now) runs.old }
 {
     let mut room = [(0, 0); ROOM];
     place_lots(season, by_last_day(season, &mut room), days, runs)
@@ -38,10 +41,10 @@ pub fn most_of(season: Season, days: &mut [u32], runs: &mut [Window]) -> Most
 pub fn place_lots(season: Season, order: &[Slot], days: &mut [u32], runs: &mut [Window]) -> Most
     requires day_each { length days.old ≡ length season.windows.now }
     requires run_room { length season.windows.now ≤ length runs.old }
-    requires shuffled { IsPermutation (slots 0 season.windows.now) order.now }
-    requires rises { IsNonDecreasingBy (λ s. s.0) order.now }
-    ensures shown { Greatest season.entry.windows.now days.new (take result.runs runs.new) result.count }
-    ensures room { result.runs ≤ length runs.new }
+    requires order { ByLastDay season.windows.now order.now }
+    ensures shown { MostOf season.entry.windows.now days.new runs.new result }
+    ensures room { result.runs ≤ length season.entry.windows.now }
+    ensures rest { drop (length season.entry.windows.now) runs.new ≡ drop (length season.entry.windows.now) runs.old }
 {
     if end_before(season.windows, SHORT) {
         place_in(season, order, &mut [false; SHORT], days, runs)
@@ -52,7 +55,7 @@ pub fn place_lots(season: Season, order: &[Slot], days: &mut [u32], runs: &mut [
 
 // Do all windows end before a day?
 pub fn end_before(windows: &[Window], day: usize) -> bool
-    ensures { result ≡ true → EndBefore day windows.now }
+    ensures { Decides result (EndBefore day windows.now) }
 {
     windows.iter().all(|window| (window.high as usize) < day)
 }
@@ -67,12 +70,12 @@ fn place_in(
 ) -> Most
     requires day_each { length days.old ≡ length season.windows.now }
     requires run_room { length season.windows.now ≤ length runs.old }
-    requires shuffled { IsPermutation (slots 0 season.windows.now) order.now }
-    requires rises { IsNonDecreasingBy (λ s. s.0) order.now }
-    requires free { (d : ℕ) → Free taken.old d }
+    requires order { ByLastDay season.windows.now order.now }
+    requires free { (d : ℕ) → Unset taken.old d }
     requires ends { EndBefore (length taken.old) season.windows.now }
-    ensures shown { Greatest season.entry.windows.now days.new (take result.runs runs.new) result.count }
-    ensures room { result.runs ≤ length runs.new }
+    ensures shown { MostOf season.entry.windows.now days.new runs.new result }
+    ensures room { result.runs ≤ length season.entry.windows.now }
+    ensures rest { drop (length season.entry.windows.now) runs.new ≡ drop (length season.entry.windows.now) runs.old }
 {
     let mut most = Most { count: 0, runs: 0 };
     for (_, place) in order {
@@ -81,8 +84,9 @@ fn place_in(
     most
 }
 
-// One lot's turn (a single window is sound by a clause: a type for it would be converted at each read of a slice), and the day that it gets: the first free one of its window, or where none is free the window's first.
+// One lot's turn, and the day that it gets: the first free one of its window, or where none is free the window's first.
 // Then the run of taken days that ends with the window shows that the lot is left over.
+// The window is sound by a clause: a type for a single one would be converted at each read of a slice.
 fn place_lot(window: Window, taken: &mut [bool], runs: &mut [Window], most: &mut Most) -> u32
     requires sound { Sound window }
     requires ends { window.high < length taken.old }
@@ -111,8 +115,8 @@ fn first_free(taken: &[bool], window: Window) -> u32
     requires sound { Sound window }
     requires ends { window.high < length taken.now }
     ensures from { window.low ≤ result }
-    ensures before { (d : ℕ) → window.low ≤ d → d < result → Taken taken.now d }
-    ensures free { result ≤ window.high → Free taken.now result }
+    ensures before { (d : ℕ) → window.low ≤ d → d < result → Set taken.now d }
+    ensures free { result ≤ window.high → Unset taken.now result }
 {
     let days = &taken[window.low as usize..=window.high as usize];
     match days.iter().position(|is_taken| !*is_taken) {
@@ -125,8 +129,8 @@ fn first_free(taken: &[bool], window: Window) -> u32
 fn block_start(taken: &[bool], day: u32) -> u32
     requires { day < length taken.now }
     ensures upto { result ≤ day }
-    ensures full { (d : ℕ) → result ≤ d → d < day → Taken taken.now d }
-    ensures edge { 0 < result → Free taken.now (result - 1) }
+    ensures full { (d : ℕ) → result ≤ d → d < day → Set taken.now d }
+    ensures edge { 0 < result → Unset taken.now (result - 1) }
 {
     let before = &taken[..day as usize];
     match before.iter().rposition(|is_taken| !*is_taken) {

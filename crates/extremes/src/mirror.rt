@@ -2,8 +2,8 @@
 ghost use Rattle.std.specs.Prelude.{◌≡◌, map, length};
 ghost use Rattle.extremes.specs.Mirror.{flip, mirrored};
 
-use store::limits::LAST_DAY;
 use nvalue::season::{ROOM, Season};
+use store::limits::LAST_DAY;
 use store::window::Window;
 
 // The mirror image of a day. No day lies past the last, so the subtraction never saturates.
@@ -34,13 +34,4 @@ pub fn mirror_season<'a>(season: Season, room: &'a mut [Window; ROOM]) -> Season
     let image = &mut room[0..season.windows.len()];
     mirror_windows(season.windows, image);
     Season { windows: image }
-}
-
-// Turns each day into its mirror image.
-pub fn mirror_days(days: &mut [u32])
-    ensures { days.new ≡ map flip days.old }
-{
-    for day in days {
-        *day = flip_day(*day);
-    }
 }

@@ -1,7 +1,6 @@
 // Lots in the order of their last days.
 ghost use Rattle.std.specs.Prelude.{◌≡◌, ◌≤◌, length};
-ghost use Rattle.std.specs.List.Sorted.{IsPermutation, IsNonDecreasingBy};
-ghost use Rattle.extremes.specs.Orders.{slots};
+ghost use Rattle.extremes.specs.Orders.{slots, ByLastDay};
 
 use nvalue::season::{ROOM, Season};
 use store::window::Window;
@@ -9,11 +8,10 @@ use store::window::Window;
 // A lot's last day, and its place in the stretch.
 pub type Slot = (u32, u32);
 
-// That the order is a permutation of the lots, and rises, stays two clauses of those who take it: `IsPermutation` has the swaps as data, and a ghost field holds none.
-// The lots of a season, the earliest last day first, in the room that is lent for them.
+// The lots of a season, the earliest last day first, in the room that is lent for them. That the order is such stays a
+// clause of those who take it: a permutation has its swaps as data, and a ghost field holds none.
 pub fn by_last_day<'a>(season: Season, room: &'a mut [Slot; ROOM]) -> &'a [Slot]
-    ensures shuffled { IsPermutation (slots 0 season.entry.windows.now) result.now }
-    ensures rises { IsNonDecreasingBy (λ s. s.0) result.now }
+    ensures { ByLastDay season.entry.windows.now result.now }
 {
     let order = &mut room[..season.windows.len()];
     fill_slots(season.windows, order);

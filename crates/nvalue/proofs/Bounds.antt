@@ -2,12 +2,12 @@
 use Rattle.std.proofs.Common.{◌≡◌, ℕ, zero, suc, ◌+◌, ◌-◌, ◌<◌, ◌≤◌, cond, ◌&&◌, leb, List, [], ◌∷◌, ◌++◌, map, length, get_or, sym, refl, ◌∙◌, subst, zero-add, arith}
 use Rattle.std.specs.List.{range_with_len, ContainsAt as Has, flat_map, AllByRecursion}
 use Rattle.std.proofs.lemmas.List.FromFn.{get_or-range_with_len, get_or-map-range_with_len, length-range_with_len, length-map-range_with_len}
-use Rattle.std.proofs.ByRecursion.{All-get_or, has_get_or}
+use Rattle.std.proofs.ByRecursion.{All-from_get_or, All-get_or, has_get_or}
 use Rattle.std.proofs.lemmas.List.{get_or-map, length-append, length-map}
 use Rattle.std.proofs.lemmas.Bool.Decides.{nat_tests}
 use Rattle.store.specs.declared.window.Window.{Window}
 use Rattle.store.specs.Windows.{window, window_at}
-use Rattle.nvalue.specs.Choices.{In, Choice, ShareNoDay, Disjoint, size, load, Crowded, surplus}
+use Rattle.nvalue.specs.Choices.{In, Choice, ShareNoDay, Disjoint, size, load, Violated, surplus}
 use Rattle.nvalue.specs.Nvalue.{has, nvalue}
 use Rattle.nvalue.proofs.Choices.{choice_get_or, choice_length}
 use Rattle.nvalue.proofs.Nvalue.{without, has_append, has_from, has_le_one, has_without, nvalue_le_length, nvalue_mono, nvalue_without, within_append, within_members}
@@ -105,11 +105,19 @@ loads_bound runs (w ∷ ws) (d ∷ ds) (b, c) u =
     grind (arith, nat_tests, loads_bound runs ws ds c u, loads_more runs w ws, covers_le_has runs w d u b, has_append d ds (days runs), has_le_one)
 
 -- the surpluses of crowded runs are their loads less their sizes
-surplus_loads : (ws runs : List Window) → AllByRecursion (Crowded ws) runs → surplus ws runs + room runs ≡ loads runs ws
+surplus_loads : (ws runs : List Window) → AllByRecursion (Violated ws) runs → surplus ws runs + room runs ≡ loads runs ws
 surplus_loads ws [] c = refl
 surplus_loads ws (run ∷ runs) (c, cs) = omega (arith, surplus_loads ws runs cs)
 
 -- crowded runs that share no day: at most as many different days as lots, less the surpluses
-pub crowded_bound : (ws runs : List Window) (ds : List ℕ) → Choice ws ds → Disjoint runs → AllByRecursion (Crowded ws) runs → nvalue ds + surplus ws runs ≤ length ws
-crowded_bound ws runs ds c u o =
+pub violated_bound : (ws runs : List Window) (ds : List ℕ) → Choice ws ds → Disjoint runs → AllByRecursion (Violated ws) runs → nvalue ds + surplus ws runs ≤ length ws
+violated_bound ws runs ds c u o =
     omega (arith, nvalue_mono ds (ds ++ days runs) (within_append ds (days runs)), loads_bound runs ws ds c u, surplus_loads ws runs o)
+
+-- windows that lie apart in their order share no day
+pub disjoint_rising : (ws : List Window) → ((i j : ℕ) → i < j → j < length ws → (window_at ws i).high < (window_at ws j).low) → Disjoint ws
+disjoint_rising [] apart = tt
+disjoint_rising (w ∷ ws) apart = (
+  All-from_get_or (ShareNoDay w) ws (window 0 0) (λ j h d v u. omega (arith, apart 0 (suc j) (omega arith) (omega arith))),
+  disjoint_rising ws (λ i j l h. apart (suc i) (suc j) (omega arith) (omega arith)),
+)

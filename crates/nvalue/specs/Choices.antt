@@ -37,8 +37,8 @@ load run [] = 0
 load run (w ∷ ws) = cond (nat_le run.low w.low && nat_le w.high run.high) 1 0 + load run ws
 
 -- a run is crowded where more windows lie in it than it has days; by so many more is its surplus
-abbrev pub Crowded : List Window → Window → Type 0
-Crowded ws run = size run < load run ws
+abbrev pub Violated : List Window → Window → Type 0
+Violated ws run = size run < load run ws
 
 abbrev pub surplus : List Window → List Window → ℕ
 surplus ws [] = 0

@@ -3,7 +3,7 @@ use Rattle.std.specs.Prelude.{◌≡◌, ℕ, ◌+◌, ◌<◌, ◌≤◌, List,
 use Rattle.std.specs.List.{AllByRecursion}
 use Rattle.store.specs.declared.window.Window.{Window}
 use Rattle.store.specs.Windows.{window_at}
-use Rattle.nvalue.specs.Choices.{Choice, Disjoint, Crowded, surplus}
+use Rattle.nvalue.specs.Choices.{Choice, Disjoint, Violated, surplus}
 use Rattle.nvalue.specs.Nvalue.{nvalue, CountOf}
 
 -- nvalue is the number of different values, and there is one such number
@@ -26,6 +26,6 @@ DisjointWindowsBoundBelow =
     (ws : List Window) (ds lots : List ℕ) → Choice ws ds → AllByRecursion (λ lot. lot < length ws) lots → Disjoint (map (window_at ws) lots) → length lots ≤ nvalue ds
 
 -- crowded runs that share no day: every choice has at most as many different days as lots, less the surpluses
-abbrev pub CrowdedRunsBoundAbove : Type 0
-CrowdedRunsBoundAbove =
-    (ws runs : List Window) (ds : List ℕ) → Choice ws ds → Disjoint runs → AllByRecursion (Crowded ws) runs → nvalue ds + surplus ws runs ≤ length ws
+abbrev pub ViolatedRunsBoundAbove : Type 0
+ViolatedRunsBoundAbove =
+    (ws runs : List Window) (ds : List ℕ) → Choice ws ds → Disjoint runs → AllByRecursion (Violated ws) runs → nvalue ds + surplus ws runs ≤ length ws

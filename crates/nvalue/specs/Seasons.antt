@@ -1,10 +1,12 @@
 -- Which windows make no season, as checks in their order.
-use Rattle.std.specs.Prelude.{◌≡◌, ℕ, ◌<◌, ◌≤◌, List, [], ◌∷◌, length}
+use Rattle.std.specs.Prelude.{◌≡◌, ℕ, ◌<◌, ◌≤◌, ◌+◌, List, [], ◌∷◌, length, Option, Result, MatchOption}
 use Rattle.std.specs.List.{AllByRecursion}
 use Rattle.store.specs.declared.window.Window.{Window}
-use Rattle.store.specs.Checks.{refuse}
+use Rattle.store.specs.Checks.{Checked, refuse}
 use Rattle.store.specs.Over.{over}
 use Rattle.store.specs.Sound.{FirstFaulty, Sound}
+use Rattle.nvalue.specs.Choices.{part}
+use Rattle.nvalue.specs.declared.season.Season.{Season}
 use Rattle.nvalue.specs.declared.season.SeasonFault.{SeasonFault}
 use Rattle.nvalue.specs.declared.season.SeasonFault.TheVariants.{TooManyLots, FaultyWindow}
 
@@ -27,3 +29,17 @@ pub record Filled (ws was is : List Window) : Type 0 where
 -- so many lots, at most 256, all of them with sound windows
 abbrev pub CountsLots : List Window → ℕ → Type 0
 CountsLots ws lots = (lots ≡ length ws) × (length ws ≤ 256) × AllByRecursion Sound ws
+
+-- the windows of a store are read, and how many they are is answered
+abbrev pub Reads : List Window → Result ℕ SeasonFault → Type 0
+Reads ws r = Checked (season_checks ws) r (CountsLots ws) (Unit {0})
+
+-- the windows make a season
+abbrev pub Makes : List Window → Result Season SeasonFault → Type 0
+Makes ws r = Checked (season_checks ws) r (λ season. season.windows.now ≡ ws) (Unit {0})
+
+-- so many lots in a row make a season, where there are such
+abbrev pub TakesPart : List Window → ℕ → ℕ → Option Season → Type 0
+TakesPart ws first lots r =
+    MatchOption r (length ws < first + lots)
+    (λ season. (first + lots ≤ length ws) × (season.windows.now ≡ part ws first lots))

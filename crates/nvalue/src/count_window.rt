@@ -1,7 +1,7 @@
 // A count window: from the fewest to the most different days that a stretch may take.
 ghost use Rattle.std.specs.Prelude.{◌≤◌};
 
-// No count window that exists has its floor above its ceiling.
+// None can be made whose floor exceeds its ceiling.
 #[derive(Clone, Copy, PartialEq, Eq, Debug)]
 pub struct CountWindow {
     floor: u32,

@@ -1,5 +1,6 @@
 // The laws of counting, stated where the check asks for their proofs.
-ghost use Rattle.nvalue.specs.Laws.{NvalueCounts, ReplacingMovesByOne, CountsBetweenAreCounts, DisjointWindowsBoundBelow, CrowdedRunsBoundAbove};
+ghost use Rattle.nvalue.specs.Laws.{CountsBetweenAreCounts, DisjointWindowsBoundBelow, NvalueCounts};
+ghost use Rattle.nvalue.specs.Laws.{ReplacingMovesByOne, ViolatedRunsBoundAbove};
 
 pub fn nvalue_counts()
     ensures { NvalueCounts }
@@ -17,6 +18,6 @@ pub fn disjoint_windows_bound_below()
     ensures { DisjointWindowsBoundBelow }
 {}
 
-pub fn crowded_runs_bound_above()
-    ensures { CrowdedRunsBoundAbove }
+pub fn violated_runs_bound_above()
+    ensures { ViolatedRunsBoundAbove }
 {}

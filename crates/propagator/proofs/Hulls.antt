@@ -8,10 +8,10 @@ use Rattle.std.proofs.ByRecursion.{All-from_get_or, All-get_or}
 use Rattle.store.specs.Sound.{Sound}
 use Rattle.nvalue.proofs.Choices.{choice_from_get_or, choice_get_or, choice_length}
 use Rattle.extremes.specs.Shown.{HasMost}
-use Rattle.propagator.specs.BestDays.{UsedDays}
+use Rattle.propagator.specs.Supports.{BoundSupports}
 use Rattle.propagator.specs.Tight.{Hull}
 
-pub hull_from : (ws is : List Window) → length is ≡ length ws → ((i : ℕ) → i < length ws → UsedDays ws i (window_at is i)) → Hull ws (HasMost ws) is
+pub hull_from : (ws is : List Window) → length is ≡ length ws → ((i : ℕ) → i < length ws → BoundSupports ws i (window_at is i)) → Hull ws (HasMost ws) is
 hull_from ws is e used = record {
   each = e;
   low = λ i b. let r = (used i b).low in (r.0, r.1.choice, r.1.most, r.2);
@@ -20,12 +20,12 @@ hull_from ws is e used = record {
 }
 
 -- one more lot has its window
-pub used_more : (ws is : List Window) (lot : ℕ) (used : Window) → lot < length is → ((k : ℕ) → k < lot → UsedDays ws k (window_at is k)) → UsedDays ws lot used
-    → (k : ℕ) → k < lot + 1 → UsedDays ws k (window_at (set is lot used) k)
-used_more ws is lot used l inv here =
-    below_more (λ k. UsedDays ws k (window_at (set is lot used) k)) lot
-    (λ k b. subst (UsedDays ws k) (sym (get_or-set_other is lot k used (window 0 0) (omega arith))) (inv k b))
-    (subst (UsedDays ws lot) (sym (get_or-set_same is lot used (window 0 0) l)) here)
+pub supports_more : (ws is : List Window) (lot : ℕ) (used : Window) → lot < length is → ((k : ℕ) → k < lot → BoundSupports ws k (window_at is k)) → BoundSupports ws lot used
+    → (k : ℕ) → k < lot + 1 → BoundSupports ws k (window_at (set is lot used) k)
+supports_more ws is lot used l inv here =
+    below_more (λ k. BoundSupports ws k (window_at (set is lot used) k)) lot
+    (λ k b. subst (BoundSupports ws k) (sym (get_or-set_other is lot k used (window 0 0) (omega arith))) (inv k b))
+    (subst (BoundSupports ws lot) (sym (get_or-set_same is lot used (window 0 0) l)) here)
 
 -- the hull of choices is sound where the windows are: each end is a day of a choice, which lies in both
 pub hull_sound : (ws is : List Window) (P : List ℕ → Type 0) → Hull ws P is → AllByRecursion Sound ws → AllByRecursion Sound is

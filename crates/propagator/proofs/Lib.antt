@@ -3,9 +3,9 @@ pub mod Facing
 pub mod Hulls
 pub mod Moved
 pub mod Rungs
-pub mod Seating
+pub mod Matched
 pub mod ShutIn
 pub mod Sparing
 pub mod Spreading
 pub mod Tightened
-pub mod Walking
+pub mod Reaching

@@ -14,8 +14,8 @@ use Rattle.nvalue.proofs.Bounds.{nvalue_at_least, nvalue_at_most}
 use Rattle.nvalue.proofs.Choices.{choice_from_get_or, choice_get_or, choice_length, choice_set}
 use Rattle.nvalue.proofs.Nvalue.{has_from}
 use Rattle.extremes.specs.Mirror.{flip, mirrored}
-use Rattle.extremes.specs.Points.{Points}
-use Rattle.propagator.specs.FirstUsed.{Ascending, Reached, FirstUsed}
+use Rattle.extremes.specs.Stabbing.{StabbingPoints}
+use Rattle.propagator.specs.FirstSupport.{Ascending, SomeFrom, FirstSupport}
 use Rattle.extremes.specs.Shown.{HasFewest}
 use Rattle.store.specs.Sound.{Sound}
 use Rattle.propagator.specs.Tight.{Hull}
@@ -52,11 +52,11 @@ image : (ws : List Window) (i : ℕ) → i < length ws → window_at (map mirror
 image ws i h = get_or-map mirrored ws i (window 0 0) (window 0 0) h
 
 -- points by themselves: they ascend, one lies at or past the first day of each window, and there are as many as the fewest different days
-module _ (ws : List Window) (ps : List ℕ) (sound : AllByRecursion Sound ws) (p : Points ws ps) where
+module _ (ws : List Window) (ps : List ℕ) (sound : AllByRecursion Sound ws) (p : StabbingPoints ws ps) where
   pub points_ascend : Ascending ps
   points_ascend i j l h = omega (arith, p.apart i j l h, p.ends j h, (sound_at ws sound (p.witness j) (p.there j h)).0)
 
-  pub points_reached : (i : ℕ) → i < length ws → Reached (window_at ws i).low ps
+  pub points_reached : (i : ℕ) → i < length ws → SomeFrom (window_at ws i).low ps
   points_reached i h = let e = p.holds i h in (e.0, e.1, e.2.0)
 
   -- some choice has no more different days than there are points
@@ -74,26 +74,26 @@ module _ (ws : List Window) (ps : List ℕ) (sound : AllByRecursion Sound ws) (p
       (λ j h. has_day ws ds c (p.witness j) (p.there j h))
 
 -- the mirror image needs at least as many points, and so just as many
-points_fewer : (ws : List Window) (ps qs : List ℕ) → AllByRecursion Sound ws → Points ws ps → Points (map mirrored ws) qs → length ps ≤ length qs
+points_fewer : (ws : List Window) (ps qs : List ℕ) → AllByRecursion Sound ws → StabbingPoints ws ps → StabbingPoints (map mirrored ws) qs → length ps ≤ length qs
 points_fewer ws ps qs sound p q =
     let e = points_enough (map mirrored ws) qs (sound_mirrored ws sound) q in
     omega (arith, points_needed ws ps sound p (map flip e.0) (choice_back ws e.0 sound e.1), nvalue_mirrored e.0 (choice_days (map mirrored ws) e.0 (sound_mirrored ws sound) e.1), e.2)
 
-points_twice : (ws : List Window) (ps : List ℕ) → AllByRecursion Sound ws → Points ws ps → Points (map mirrored (map mirrored ws)) ps
-points_twice ws ps sound p = subst (λ vs. Points vs ps) (sym (mirrored_twice ws sound)) p
+points_twice : (ws : List Window) (ps : List ℕ) → AllByRecursion Sound ws → StabbingPoints ws ps → StabbingPoints (map mirrored (map mirrored ws)) ps
+points_twice ws ps sound p = subst (λ vs. StabbingPoints vs ps) (sym (mirrored_twice ws sound)) p
 
-pub points_same : (ws : List Window) (ps qs : List ℕ) → AllByRecursion Sound ws → Points ws ps → Points (map mirrored ws) qs → length qs ≡ length ps
+pub points_same : (ws : List Window) (ps qs : List ℕ) → AllByRecursion Sound ws → StabbingPoints ws ps → StabbingPoints (map mirrored ws) qs → length qs ≡ length ps
 points_same ws ps qs sound p q =
     omega (arith, points_fewer ws ps qs sound p q, points_fewer (map mirrored ws) qs ps (sound_mirrored ws sound) q (points_twice ws ps sound p))
 
 -- in the mirror image a point lies at or past the image of the last day of each window
-pub image_reached : (ws : List Window) (qs : List ℕ) → AllByRecursion Sound ws → Points (map mirrored ws) qs → (i : ℕ) → i < length ws → Reached (flip (window_at ws i).high) qs
+pub image_reached : (ws : List Window) (qs : List ℕ) → AllByRecursion Sound ws → StabbingPoints (map mirrored ws) qs → (i : ℕ) → i < length ws → SomeFrom (flip (window_at ws i).high) qs
 image_reached ws qs sound q i h =
-    subst (λ w. Reached w.low qs) (image ws i h) (points_reached (map mirrored ws) qs (sound_mirrored ws sound) q i (omega (arith, length-map ws mirrored)))
+    subst (λ w. SomeFrom w.low qs) (image ws i h) (points_reached (map mirrored ws) qs (sound_mirrored ws sound) q i (omega (arith, length-map ws mirrored)))
 
--- Points ps, from the left, and those of the mirror image, qs. Turned back and in ascending order these are the points from the right, each the first day of a
+-- StabbingPoints ps, from the left, and those of the mirror image, qs. Turned back and in ascending order these are the points from the right, each the first day of a
 -- witness: `left k` lies at or before its counterpart `right k`, and choices with the fewest days use just the days between the two.
-module _ (ws : List Window) (ps qs : List ℕ) (sound : AllByRecursion Sound ws) (p : Points ws ps) (q : Points (map mirrored ws) qs) where
+module _ (ws : List Window) (ps qs : List ℕ) (sound : AllByRecursion Sound ws) (p : StabbingPoints ws ps) (q : StabbingPoints (map mirrored ws) qs) where
   abbrev right : ℕ → ℕ
   right k = get_or ps k 0
 
@@ -224,9 +224,9 @@ module _ (ws : List Window) (ps qs : List ℕ) (sound : AllByRecursion Sound ws)
         (λ t. cond_both (ltb j (length ps)) (later j) d (λ x. has x ds ≡ 1) (λ u. has_day ws ds c (begins j) (begins_there j (grind (arith, nat_tests)))) (λ u. occurs)))
 
   -- so the first used day of a lot is one that a choice with the fewest days uses, and none uses an earlier one
-  module _ (i day : ℕ) (h : i < length ws) (u : FirstUsed (window_at ws i).low ps qs day) where
-    first_used_lem : (ds : List ℕ) × Choice ws ds × HasFewest ws ds × (get_or ds i 0 ≡ day)
-    first_used_lem =
+  module _ (i day : ℕ) (h : i < length ws) (u : FirstSupport (window_at ws i).low ps qs day) where
+    first_support_lem : (ds : List ℕ) × Choice ws ds × HasFewest ws ds × (get_or ds i 0 ≡ day)
+    first_support_lem =
         let k = u.place in
         let a = p.holds i h in
         let from : k ≤ a.0 = grind (arith, u.before a.0, a.2.0) in
@@ -251,39 +251,39 @@ module _ (ws : List Window) (ps qs : List ℕ) (sound : AllByRecursion Sound ws)
         ]
 
 -- a window cut to its first and its last used day; the last one is the first one of the mirror image
-pub record Narrowed (w : Window) (points image : List ℕ) (v : Window) : Type 0 where
-  pub low : FirstUsed w.low points image v.low
+pub record SupportEnds (w : Window) (points image : List ℕ) (v : Window) : Type 0 where
+  pub low : FirstSupport w.low points image v.low
   pub last : ℕ
-  pub high : FirstUsed (flip w.high) image points last
+  pub high : FirstSupport (flip w.high) image points last
   pub high_is : v.high ≡ flip last
 
 -- one more window cut
-pub narrow_more : (ws is : List Window) (ps qs : List ℕ) (i : ℕ) (v : Window) → i < length is → ((k : ℕ) → k < i → Narrowed (window_at ws k) ps qs (window_at is k)) → Narrowed (window_at ws i) ps qs v
-    → (k : ℕ) → k < i + 1 → Narrowed (window_at ws k) ps qs (window_at (set is i v) k)
-narrow_more ws is ps qs i v b old new k h =
+pub ends_more : (ws is : List Window) (ps qs : List ℕ) (i : ℕ) (v : Window) → i < length is → ((k : ℕ) → k < i → SupportEnds (window_at ws k) ps qs (window_at is k)) → SupportEnds (window_at ws i) ps qs v
+    → (k : ℕ) → k < i + 1 → SupportEnds (window_at ws k) ps qs (window_at (set is i v) k)
+ends_more ws is ps qs i v b old new k h =
     elim (cases_eq k i) [
       | inl e ↦
-          subst (λ n. Narrowed (window_at ws n) ps qs (window_at (set is i v) n)) (sym e)
-          (subst (Narrowed (window_at ws i) ps qs) (sym (get_or-set_same is i v (window 0 0) b)) new)
-      | inr ne ↦ subst (Narrowed (window_at ws k) ps qs) (sym (get_or-set_other is i k v (window 0 0) ne)) (old k (omega arith))
+          subst (λ n. SupportEnds (window_at ws n) ps qs (window_at (set is i v) n)) (sym e)
+          (subst (SupportEnds (window_at ws i) ps qs) (sym (get_or-set_same is i v (window 0 0) b)) new)
+      | inr ne ↦ subst (SupportEnds (window_at ws k) ps qs) (sym (get_or-set_other is i k v (window 0 0) ne)) (old k (omega arith))
     ]
 
 -- windows that are cut to their first and last used days are the smallest that hold every choice with the fewest days
-pub narrowed_hull : (ws : List Window) (ps qs : List ℕ) (is : List Window) → AllByRecursion Sound ws → Points ws ps → Points (map mirrored ws) qs → length is ≡ length ws
-    → ((i : ℕ) → i < length ws → Narrowed (window_at ws i) ps qs (window_at is i)) → Hull ws (HasFewest ws) is
-narrowed_hull ws ps qs is sound p q each cut =
+pub ends_hull : (ws : List Window) (ps qs : List ℕ) (is : List Window) → AllByRecursion Sound ws → StabbingPoints ws ps → StabbingPoints (map mirrored ws) qs → length is ≡ length ws
+    → ((i : ℕ) → i < length ws → SupportEnds (window_at ws i) ps qs (window_at is i)) → Hull ws (HasFewest ws) is
+ends_hull ws ps qs is sound p q each cut =
     let vs = map mirrored ws in
     let long : length vs ≡ length ws = length-map ws mirrored in
     let s = sound_mirrored ws sound in
     let back = points_twice ws ps sound p in
-    let low : (i : ℕ) (h : i < length ws) → FirstUsed (window_at ws i).low ps qs (window_at is i).low = λ i h. (cut i h).low in
-    let high : (i : ℕ) (h : i < length ws) → FirstUsed (window_at vs i).low qs ps (cut i h).last =
-    λ i h. subst (λ w. FirstUsed w.low qs ps (cut i h).last) (sym (image ws i h)) (cut i h).high in
+    let low : (i : ℕ) (h : i < length ws) → FirstSupport (window_at ws i).low ps qs (window_at is i).low = λ i h. (cut i h).low in
+    let high : (i : ℕ) (h : i < length ws) → FirstSupport (window_at vs i).low qs ps (cut i h).last =
+    λ i h. subst (λ w. FirstSupport w.low qs ps (cut i h).last) (sym (image ws i h)) (cut i h).high in
     record {
       each = each;
-      low = λ i h. first_used_lem ws ps qs sound p q i (window_at is i).low h (low i h);
+      low = λ i h. first_support_lem ws ps qs sound p q i (window_at is i).low h (low i h);
       high = λ i h.
-          let e = first_used_lem vs qs ps s q back i (cut i h).last (omega (arith, long)) (high i h) in (
+          let e = first_support_lem vs qs ps s q back i (cut i h).last (omega (arith, long)) (high i h) in (
             map flip e.0,
             choice_back ws e.0 sound e.1,
             fewest_back ws e.0 sound e.1 e.2,

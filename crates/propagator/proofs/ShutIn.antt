@@ -1,4 +1,4 @@
--- Where a walk has seen all days of its way: the days are all those of the lots that are shut in, and no other lot can have one.
+-- Where a reach has seen all days of its way: the days are all those of the lots that are shut in, and no other lot can have one.
 use Rattle.std.proofs.Common.{◌≡◌, ℕ, zero, suc, ◌+◌, ◌<◌, ◌≤◌, Bool, true, false, ◌&&◌, ◌||◌, leb, ◌⊎◌, List, [], ◌∷◌, length, get_or, sym, refl, ap, ◌∙◌, subst, inl, inr, arith}
 use Rattle.std.proofs.lemmas.Bool.{both_ways}
 use Rattle.std.proofs.lemmas.Bool.Decides.{nat_tests}
@@ -7,13 +7,14 @@ use Rattle.store.specs.Windows.{window, window_at}
 use Rattle.nvalue.specs.Choices.{In}
 use Rattle.nvalue.specs.Nvalue.{has}
 use Rattle.nvalue.proofs.Choices.{choice_get_or, choice_length}
-use Rattle.propagator.specs.declared.walk.Walk.{Walk}
-use Rattle.propagator.specs.BestDays.{Best, Refuses}
-use Rattle.propagator.specs.Seats.{Bound, Loose, Spared}
-use Rattle.propagator.specs.Walks.{OnWay, Passed, Seen}
+use Rattle.propagator.specs.declared.reach.Reach.{Reach}
+use Rattle.propagator.specs.Supports.{Best, NoSupport}
+use Rattle.extremes.specs.Flags.{Set, Unset}
+use Rattle.propagator.specs.Matching.{Spared}
+use Rattle.propagator.specs.Reach.{CanReach, Passed, Seen}
 use Rattle.propagator.proofs.Crowd.{crowded, has_kept, kept}
 
--- the lots that are loose, or have a day of the block
+-- the lots that are spare, or have a day of the block
 abbrev pub flags : List Bool → List ℕ → Window → List Bool
 flags [] ds block = []
 flags (b ∷ bs) [] block = []
@@ -41,59 +42,59 @@ flag_to : (b : Bool) (low d high : ℕ) → (b || (leb low d && leb d high)) ≡
 flag_to true low d high f = inl refl
 flag_to false low d high f = inr (grind (arith, nat_tests), grind (arith, nat_tests))
 
-module _ (ws : List Window) (days : List ℕ) (best : Best ws days) (loose : List Bool) (each : length loose ≡ length ws) (spared : Spared ws days loose) (lot : ℕ) (there : lot < length ws) (bound : Bound loose lot)
-    (walk : Walk) (p : Passed ws days loose lot walk) (from : walk.from ≡ walk.low) (to : walk.to ≡ walk.high + 1) where
+module _ (ws : List Window) (days : List ℕ) (best : Best ws days) (spare : List Bool) (each : length spare ≡ length ws) (spared : Spared ws days spare) (lot : ℕ) (there : lot < length ws) (bound : Unset spare lot)
+    (reach : Reach) (p : Passed ws days spare lot reach) (from : reach.from ≡ reach.low) (to : reach.to ≡ reach.high + 1) where
   block : Window
-  block = window walk.low walk.high
+  block = window reach.low reach.high
 
-  seen : (d : ℕ) → OnWay walk d → Seen walk d
+  seen : (d : ℕ) → CanReach reach d → Seen reach d
   seen d o = (omega (arith, o.0), omega (arith, o.1))
 
   many : length days ≡ length ws
   many = choice_length ws days best.choice
 
-  flagged : (k : ℕ) → k < length ws → Loose loose k ⊎ OnWay walk (get_or days k 0) → get_or (flags loose days (window walk.low walk.high)) k false ≡ true
-  flagged k b f = flag_is loose days (window walk.low walk.high) k (omega (arith, many)) (omega (arith, many)) ∙ flag_from (get_or loose k false) walk.low (get_or days k 0) walk.high f
+  flagged : (k : ℕ) → k < length ws → Set spare k ⊎ CanReach reach (get_or days k 0) → get_or (flags spare days (window reach.low reach.high)) k false ≡ true
+  flagged k b f = flag_is spare days (window reach.low reach.high) k (omega (arith, many)) (omega (arith, many)) ∙ flag_from (get_or spare k false) reach.low (get_or days k 0) reach.high f
 
-  flagged_to : (k : ℕ) → k < length ws → get_or (flags loose days (window walk.low walk.high)) k false ≡ true → Loose loose k ⊎ OnWay walk (get_or days k 0)
+  flagged_to : (k : ℕ) → k < length ws → get_or (flags spare days (window reach.low reach.high)) k false ≡ true → Set spare k ⊎ CanReach reach (get_or days k 0)
   flagged_to k b f =
-      flag_to (get_or loose k false) walk.low (get_or days k 0) walk.high (sym (flag_is loose days (window walk.low walk.high) k (omega (arith, many)) (omega (arith, many))) ∙ f)
+      flag_to (get_or spare k false) reach.low (get_or days k 0) reach.high (sym (flag_is spare days (window reach.low reach.high) k (omega (arith, many)) (omega (arith, many))) ∙ f)
 
   -- a day that a flagged lot has
-  kept_day : (d l : ℕ) → l < length ws → get_or days l 0 ≡ d → Loose loose l ⊎ OnWay walk (get_or days l 0) → has d (kept (flags loose days (window walk.low walk.high)) days) ≡ 1
+  kept_day : (d l : ℕ) → l < length ws → get_or days l 0 ≡ d → Set spare l ⊎ CanReach reach (get_or days l 0) → has d (kept (flags spare days (window reach.low reach.high)) days) ≡ 1
   kept_day d l b e f =
-      subst (λ x. has x (kept (flags loose days (window walk.low walk.high)) days) ≡ 1) e (has_kept (flags loose days (window walk.low walk.high)) days l (omega (arith, many)) (flagged l b f))
+      subst (λ x. has x (kept (flags spare days (window reach.low reach.high)) days) ≡ 1) e (has_kept (flags spare days (window reach.low reach.high)) days l (omega (arith, many)) (flagged l b f))
 
-  on_way : (d : ℕ) → OnWay walk d → has d (kept (flags loose days (window walk.low walk.high)) days) ≡ 1
-  on_way d o = let h = p.held d (seen d o) in kept_day d h.0 h.1 h.2 (inr (subst (OnWay walk) (sym h.2) o))
+  can_reach : (d : ℕ) → CanReach reach d → has d (kept (flags spare days (window reach.low reach.high)) days) ≡ 1
+  can_reach d o = let h = p.held d (seen d o) in kept_day d h.0 h.1 h.2 (inr (subst (CanReach reach) (sym h.2) o))
 
-  spare : (k : ℕ) → k < length ws → Loose loose k → (d : ℕ) → In (window_at ws k) d → has d (kept (flags loose days (window walk.low walk.high)) days) ≡ 1
-  spare k b l d i = let h = spared.closed k b l d i in kept_day d h.0 h.1 h.3 (inl h.2)
+  spare_day : (k : ℕ) → k < length ws → Set spare k → (d : ℕ) → In (window_at ws k) d → has d (kept (flags spare days (window reach.low reach.high)) days) ≡ 1
+  spare_day k b l d i = let h = spared.closed k b l d i in kept_day d h.0 h.1 h.3 (inl h.2)
 
   -- a choice with the most different days gives the lot none of the way: it would lose a day
-  pub shut : Refuses ws lot (window walk.low walk.high)
+  pub shut : NoSupport ws lot (window reach.low reach.high)
   shut es b i =
       let long = choice_length ws es b.choice in
-      let fs = flags loose days (window walk.low walk.high) in
+      let fs = flags spare days (window reach.low reach.high) in
       let own : get_or fs lot false ≡ false = elim (cases_flag (get_or fs lot false)) [
         | inr e ↦ e
         | inl e ↦ elim (flagged_to lot there e) [
-          | inl l ↦ absurd (both_ways (get_or loose lot false) bound l)
+          | inl l ↦ absurd (both_ways (get_or spare lot false) bound l)
           | inr o ↦ absurd (p.own (seen (get_or days lot 0) o))
         ]
       ] in
-      let fewer = crowded fs days es (length_flags loose days (window walk.low walk.high) (omega (arith, many))) (omega (arith, many))
+      let fewer = crowded fs days es (length_flags spare days (window reach.low reach.high) (omega (arith, many))) (omega (arith, many))
       (λ k l a c ne e. flagged k (omega (arith, many)) (inl (spared.company k l (omega (arith, many)) (omega (arith, many)) ne e)))
       (λ k a f.
       let inside = choice_get_or ws es b.choice k (omega arith) in
       elim (flagged_to k (omega arith) f) [
-        | inl l ↦ spare k (omega arith) l (get_or es k 0) inside
+        | inl l ↦ spare_day k (omega arith) l (get_or es k 0) inside
         | inr o ↦ elim (p.closed k (omega arith) (seen (get_or days k 0) o)) [
-          | inl l ↦ spare k (omega arith) l (get_or es k 0) inside
-          | inr g ↦ on_way (get_or es k 0) (g (get_or es k 0) inside)
+          | inl l ↦ spare_day k (omega arith) l (get_or es k 0) inside
+          | inr g ↦ can_reach (get_or es k 0) (g (get_or es k 0) inside)
         ]
       ])
-      lot (omega (arith, long, there)) own (on_way (get_or es lot 0) i) in
+      lot (omega (arith, long, there)) own (can_reach (get_or es lot 0) i) in
       absurd (omega (arith, fewer, b.most days best.choice))
     where
       cases_flag : (f : Bool) → (f ≡ true) ⊎ (f ≡ false)

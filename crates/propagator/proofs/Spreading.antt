@@ -2,15 +2,16 @@
 use Rattle.std.proofs.Common.{◌≡◌, ℕ, zero, suc, ◌+◌, ◌<◌, ◌≤◌, Bool, true, false, cond, ◌⊎◌, List, [], ◌∷◌, length, get_or, set, take, drop, Option, None, sym, refl, ap, ◌∙◌, subst, inl, inr, arith}
 use Rattle.std.proofs.lemmas.List.{get_or-drop, get_or-set_same, get_or-take}
 use Rattle.std.proofs.lemmas.Bool.{both_ways, cases_eq}
-use Rattle.propagator.specs.Seats.{Bound, Holds, Loose, Pending, Spread}
-use Rattle.propagator.proofs.Seating.{loose_set, loose_unset, same_some}
+use Rattle.extremes.specs.Flags.{Set, Unset}
+use Rattle.propagator.specs.Matching.{Mate, Spread}
+use Rattle.propagator.proofs.Matched.{set_stays, set_was, same_some}
 
 -- a place of a part
-pub part_at : (holders : List (Option ℕ)) (low n i : ℕ) → i < n → get_or (take n (drop low holders)) i None ≡ get_or holders (low + i) None
-part_at holders low n i l = get_or-take n (drop low holders) i None l ∙ get_or-drop low holders i None
+pub part_at : (mates : List (Option ℕ)) (low n i : ℕ) → i < n → get_or (take n (drop low mates)) i None ≡ get_or mates (low + i) None
+part_at mates low n i l = get_or-take n (drop low mates) i None l ∙ get_or-drop low mates i None
 
-pub spread_none : (from : ℕ) (holders : List (Option ℕ)) (loose pending : List Bool) → Spread from (from + 0) holders loose pending loose pending
-spread_none from holders loose pending = record {
+pub spread_none : (from : ℕ) (mates : List (Option ℕ)) (spare pending : List Bool) → Spread from (from + 0) mates spare pending spare pending
+spread_none from mates spare pending = record {
   all = λ day k a b h. absurd (omega arith);
   kept = λ k l. l;
   only = λ k l. inl l;
@@ -19,12 +20,12 @@ spread_none from holders loose pending = record {
   news = λ k p. inl p;
 }
 
-module _ (from end : ℕ) (holders : List (Option ℕ)) (loose pending loose' pending' : List Bool) (s : Spread from end holders loose pending loose' pending') where
+module _ (from end : ℕ) (mates : List (Option ℕ)) (spare pending spare' pending' : List Bool) (s : Spread from end mates spare pending spare' pending') where
   -- no lot has the next day
-  pub spread_free : (next : ℕ) → next ≡ end + 1 → ((k : ℕ) → Holds holders end k → ⊥) → Spread from next holders loose pending loose' pending'
+  pub spread_free : (next : ℕ) → next ≡ end + 1 → ((k : ℕ) → Mate mates end k → ⊥) → Spread from next mates spare pending spare' pending'
   spread_free next n free = rw n (record {
     all = λ day k a b h. elim (cases_eq day end) [
-      | inl e ↦ absurd (free k (subst (λ x. Holds holders x k) e h))
+      | inl e ↦ absurd (free k (subst (λ x. Mate mates x k) e h))
       | inr ne ↦ s.all day k a (omega arith) h
     ];
     kept = s.kept;
@@ -35,54 +36,54 @@ module _ (from end : ℕ) (holders : List (Option ℕ)) (loose pending loose' pe
   })
 
   -- a lot has it
-  module _ (k : ℕ) (has : Holds holders end k) (there : k < length loose') (each : length pending' ≡ length loose') where
+  module _ (k : ℕ) (has : Mate mates end k) (there : k < length spare') (each : length pending' ≡ length spare') where
     abbrev pub more : List Bool
-    more = set loose' k true
+    more = set spare' k true
 
-    all_more : (day j : ℕ) → from ≤ day → day < end + 1 → Holds holders day j → Loose more j
+    all_more : (day j : ℕ) → from ≤ day → day < end + 1 → Mate mates day j → Set more j
     all_more day j a b h = elim (cases_eq day end) [
-      | inl e ↦ let is = same_some k j (sym has ∙ subst (λ x. Holds holders x j) e h) in subst (Loose more) is (get_or-set_same loose' k true false there)
-      | inr ne ↦ loose_set loose' k j (s.all day j a (omega arith) h)
+      | inl e ↦ let is = same_some k j (sym has ∙ subst (λ x. Mate mates x j) e h) in subst (Set more) is (get_or-set_same spare' k true false there)
+      | inr ne ↦ set_stays spare' k j (s.all day j a (omega arith) h)
     ]
 
-    from_le : from ≤ end → (j : ℕ) → Loose more j → Loose loose j ⊎ ((day : ℕ) × (from ≤ day) × (day < end + 1) × Holds holders day j)
-    from_le le j l = elim (loose_unset loose' k j l) [
-      | inl e ↦ inr (end, le, omega arith, subst (Holds holders end) (sym e) has)
+    from_le : from ≤ end → (j : ℕ) → Set more j → Set spare j ⊎ ((day : ℕ) × (from ≤ day) × (day < end + 1) × Mate mates day j)
+    from_le le j l = elim (set_was spare' k j l) [
+      | inl e ↦ inr (end, le, omega arith, subst (Mate mates end) (sym e) has)
       | inr o ↦ elim (s.only j o) [ inl p ↦ inl p | inr d ↦ inr (d.0, d.1, omega (arith, d.2), d.3) ]
     ]
 
-    was_bound : Bound loose' k → (b : Bool) → get_or loose k false ≡ b → Bound loose k
-    was_bound u true e = absurd (both_ways (get_or loose' k false) u (s.kept k e))
+    was_bound : Unset spare' k → (b : Bool) → get_or spare k false ≡ b → Unset spare k
+    was_bound u true e = absurd (both_ways (get_or spare' k false) u (s.kept k e))
     was_bound u false e = e
 
-    held : from ≤ end → (b : Bool) → get_or loose' k false ≡ b → Spread from (end + 1) holders loose pending more (cond b pending' (set pending' k true))
+    held : from ≤ end → (b : Bool) → get_or spare' k false ≡ b → Spread from (end + 1) mates spare pending more (cond b pending' (set pending' k true))
     held le true e = record {
       all = all_more;
-      kept = λ j l. loose_set loose' k j (s.kept j l);
+      kept = λ j l. set_stays spare' k j (s.kept j l);
       only = from_le le;
       waits = s.waits;
-      new = λ j l. elim (loose_unset loose' k j l) [ inl i ↦ s.new j (subst (Loose loose') (sym i) e) | inr o ↦ s.new j o ];
-      news = λ j p. elim (s.news j p) [ inl q ↦ inl q | inr q ↦ inr (q.0, loose_set loose' k j q.1) ];
+      new = λ j l. elim (set_was spare' k j l) [ inl i ↦ s.new j (subst (Set spare') (sym i) e) | inr o ↦ s.new j o ];
+      news = λ j p. elim (s.news j p) [ inl q ↦ inl q | inr q ↦ inr (q.0, set_stays spare' k j q.1) ];
     }
     held le false e = record {
       all = all_more;
-      kept = λ j l. loose_set loose' k j (s.kept j l);
+      kept = λ j l. set_stays spare' k j (s.kept j l);
       only = from_le le;
-      waits = λ j p. loose_set pending' k j (s.waits j p);
-      new = λ j l. elim (loose_unset loose' k j l) [
-        | inl i ↦ inr (subst (Pending (set pending' k true)) (sym i) (get_or-set_same pending' k true false (omega arith)))
-        | inr o ↦ elim (s.new j o) [ inl q ↦ inl q | inr q ↦ inr (loose_set pending' k j q) ]
+      waits = λ j p. set_stays pending' k j (s.waits j p);
+      new = λ j l. elim (set_was spare' k j l) [
+        | inl i ↦ inr (subst (Set (set pending' k true)) (sym i) (get_or-set_same pending' k true false (omega arith)))
+        | inr o ↦ elim (s.new j o) [ inl q ↦ inl q | inr q ↦ inr (set_stays pending' k j q) ]
       ];
-      news = λ j p. elim (loose_unset pending' k j p) [
-        | inl i ↦ inr (subst (Bound loose) (sym i) (was_bound e (get_or loose k false) refl), subst (Loose more) (sym i) (get_or-set_same loose' k true false there))
-        | inr o ↦ elim (s.news j o) [ inl q ↦ inl q | inr q ↦ inr (q.0, loose_set loose' k j q.1) ]
+      news = λ j p. elim (set_was pending' k j p) [
+        | inl i ↦ inr (subst (Unset spare) (sym i) (was_bound e (get_or spare k false) refl), subst (Set more) (sym i) (get_or-set_same spare' k true false there))
+        | inr o ↦ elim (s.news j o) [ inl q ↦ inl q | inr q ↦ inr (q.0, set_stays spare' k j q.1) ]
       ];
     }
 
-    pub spread_held : (next : ℕ) → next ≡ end + 1 → from ≤ end → Spread from next holders loose pending more (cond (get_or loose' k false) pending' (set pending' k true))
-    spread_held next n le = rw n (held le (get_or loose' k false) refl)
+    pub spread_held : (next : ℕ) → next ≡ end + 1 → from ≤ end → Spread from next mates spare pending more (cond (get_or spare' k false) pending' (set pending' k true))
+    spread_held next n le = rw n (held le (get_or spare' k false) refl)
 
--- what is left to do: to make the bound lots loose, and to go through those that are pending
+-- what is left to do: to make the bound lots spare, and to go through those that are pending
 abbrev pub work : List Bool → List Bool → ℕ
 work [] ps = 0
 work (b ∷ bs) [] = 0
@@ -98,8 +99,8 @@ work_lot false p true false f g = omega arith
 work_lot false p false true f g = elim (g refl) [ inl e ↦ omega (arith, ap {B = ℕ} (λ x. cond x 1 0) e) | inr e ↦ absurd (both_ways false refl e.1) ]
 work_lot false p false false f g = omega arith
 
-pub work_less : (bs ps bs' ps' : List Bool) → length ps ≡ length bs → length bs' ≡ length bs → length ps' ≡ length bs → ((k : ℕ) → Loose bs k → Loose bs' k)
-    → ((k : ℕ) → Pending ps' k → Pending ps k ⊎ (Bound bs k × Loose bs' k)) → work bs' ps' ≤ work bs ps
+pub work_less : (bs ps bs' ps' : List Bool) → length ps ≡ length bs → length bs' ≡ length bs → length ps' ≡ length bs → ((k : ℕ) → Set bs k → Set bs' k)
+    → ((k : ℕ) → Set ps' k → Set ps k ⊎ (Unset bs k × Set bs' k)) → work bs' ps' ≤ work bs ps
 work_less [] ps [] ps' e f g k n = omega arith
 work_less [] ps (b' ∷ bs') ps' e f g k n = absurd (omega arith)
 work_less (b ∷ bs) [] bs' ps' e f g k n = absurd (omega arith)
@@ -109,7 +110,7 @@ work_less (b ∷ bs) (p ∷ ps) (b' ∷ bs') (p' ∷ ps') e f g k n =
     omega (arith, work_lot b p b' p' (k 0) (n 0), work_less bs ps bs' ps' (omega arith) (omega arith) (omega arith) (λ j. k (suc j)) (λ j. n (suc j)))
 
 -- one less is pending
-pub work_taken : (bs ps : List Bool) (k : ℕ) → length ps ≡ length bs → k < length ps → Pending ps k → work bs (set ps k false) < work bs ps
+pub work_taken : (bs ps : List Bool) (k : ℕ) → length ps ≡ length bs → k < length ps → Set ps k → work bs (set ps k false) < work bs ps
 work_taken bs [] k e l t = absurd (omega arith)
 work_taken [] (p ∷ ps) k e l t = absurd (omega arith)
 work_taken (b ∷ bs) (true ∷ ps) zero e l t = omega arith

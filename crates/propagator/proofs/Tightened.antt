@@ -11,9 +11,9 @@ use Rattle.nvalue.specs.Nvalue.{nvalue, Counts}
 use Rattle.nvalue.proofs.Choices.{choice_length, choice_set, counts_between}
 use Rattle.nvalue.proofs.Nvalue.{nvalue_set, nvalue_unset}
 use Rattle.nvalue.specs.declared.count_window.CountWindow.{CountWindow}
-use Rattle.extremes.specs.Shown.{HasFewest, HasMost}
+use Rattle.extremes.specs.Shown.{HasFewest, HasMost, IsGreatest, IsLeast}
 use Rattle.store.specs.Sound.{Sound}
-use Rattle.propagator.specs.Tight.{Hull, IsGreatest, IsLeast, Tightest}
+use Rattle.propagator.specs.Tight.{Hull, Tightest}
 
 -- the same hull, where P and Q hold of the same choices
 pub hull_like : (ws is : List Window) (P Q : List ℕ → Type 0) → ((ds : List ℕ) → Choice ws ds → P ds → Q ds) → ((ds : List ℕ) → Choice ws ds → Q ds → P ds) → Hull ws P is → Hull ws Q is
@@ -37,7 +37,7 @@ module _ (ws : List Window) (least most floor ceiling : ℕ) (lo : IsLeast ws le
   -- where neither end of the count window is tight, or all choices have one count, every day of a window is used
   used : ((least < ceiling) × (floor < most)) ⊎ (least ≡ most) → least ≤ ceiling → floor ≤ most → (i d : ℕ) → i < length ws → In (window_at ws i) d
       → (ds : List ℕ) × Choice ws ds × Counts floor ceiling ds × (get_or ds i 0 ≡ d)
-  used loose a b i d h in' =
+  used slack a b i d h in' =
       let l = lo.reached in
       let g = hi.reached in
       let xs = set l.0 i d in
@@ -49,9 +49,9 @@ module _ (ws : List Window) (least most floor ceiling : ℕ) (lo : IsLeast ws le
       let up : nvalue xs ≤ least + 1 = omega (arith, nvalue_set l.0 i d, l.2) in
       let down : most ≤ nvalue ys + 1 = omega (arith, nvalue_unset g.0 i d, g.2) in
       elim (cases_lt (nvalue xs) floor) [
-        | inr x ↦ (xs, cx, (x, elim loose [ inl s ↦ omega (arith, s.0) | inr e ↦ omega (arith, hi.greatest xs cx) ]), ex)
+        | inr x ↦ (xs, cx, (x, elim slack [ inl s ↦ omega (arith, s.0) | inr e ↦ omega (arith, hi.greatest xs cx) ]), ex)
         | inl x ↦ elim (cases_lt ceiling (nvalue ys)) [
-          | inr y ↦ (ys, cy, (elim loose [ inl s ↦ omega (arith, s.1) | inr e ↦ omega (arith, lo.least ys cy) ], y), ey)
+          | inr y ↦ (ys, cy, (elim slack [ inl s ↦ omega (arith, s.1) | inr e ↦ omega (arith, lo.least ys cy) ], y), ey)
           | inl y ↦
               let z = counts_between ws xs ys i floor cx cy (ex ∙ sym ey) (omega arith) (omega arith) in
               (z.0, z.1, (omega (arith, z.3), omega (arith, z.3)), z.2 ∙ ex)
@@ -60,10 +60,10 @@ module _ (ws : List Window) (least most floor ceiling : ℕ) (lo : IsLeast ws le
 
   -- so the windows stay
   pub stays : ((least < ceiling) × (floor < most)) ⊎ (least ≡ most) → least ≤ ceiling → floor ≤ most → AllByRecursion Sound ws → Hull ws (Counts floor ceiling) ws
-  stays loose a b sound = record {
+  stays slack a b sound = record {
     each = refl;
-    low = λ i h. let s = All-get_or Sound ws i (window 0 0) h sound in used loose a b i (window_at ws i).low h (omega arith, s.0);
-    high = λ i h. let s = All-get_or Sound ws i (window 0 0) h sound in used loose a b i (window_at ws i).high h (s.0, omega arith);
+    low = λ i h. let s = All-get_or Sound ws i (window 0 0) h sound in used slack a b i (window_at ws i).low h (omega arith, s.0);
+    high = λ i h. let s = All-get_or Sound ws i (window 0 0) h sound in used slack a b i (window_at ws i).high h (s.0, omega arith);
     kept = λ ds c k. c;
   }
 

@@ -1,5 +1,5 @@
-pub mod BestDays
-pub mod FirstUsed
-pub mod Seats
-pub mod Walks
+pub mod FirstSupport
+pub mod Matching
+pub mod Reach
+pub mod Supports
 pub mod Tight

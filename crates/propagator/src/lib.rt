@@ -1,13 +1,13 @@
-// The tightest windows of one rule: the smallest that hold every choice with a count in the rule's count window.
+// The propagator of one rule: the smallest windows that hold every choice with a count in the rule's count window.
 #![tactic(auto)]
 
 mod fewest_hull;
-mod loose;
+mod mates;
 mod most_hull;
-mod seats;
+mod reach;
 mod shut;
+mod spare;
 pub mod tighten;
-mod walk;
 
 // Count windows stand in the crate of counting; callers of `tighten` find them here too.
 pub use nvalue::count_window;

@@ -1,21 +1,23 @@
 // The smallest windows that hold every choice with the most different days.
 ghost use Rattle.std.specs.Prelude.{◌≡◌, ℕ, ◌<◌, length};
 ghost use Rattle.extremes.specs.Shown.{HasMost};
+ghost use Rattle.extremes.specs.Flags.{Unset};
 ghost use Rattle.extremes.specs.Turns.{EndBefore};
-ghost use Rattle.propagator.specs.BestDays.{Best, NoneAfter, NoneBefore, Reached, UsedDays};
-ghost use Rattle.propagator.specs.Seats.{Bound, Free, SeatsOf};
+ghost use Rattle.propagator.specs.Supports.{Best, NoneAfter, NoneBefore, Supported, BoundSupports};
+ghost use Rattle.propagator.specs.Matching.{Unmatched, IsMatching};
 ghost use Rattle.propagator.specs.Tight.{Hull};
 
-use crate::loose::spread;
-use crate::seats::seat;
-use crate::shut::{Seats, shut_out};
-use crate::walk::Walk;
+use crate::mates::note_mates;
+use crate::reach::Reach;
+use crate::shut::{Matching, shut_out};
+use crate::spare::spread;
 use extremes::matching::{SHORT, end_before};
 use nvalue::season::{ROOM, Season};
 use store::limits::DAYS;
 use store::window::Window;
 
-// Writes for each lot the first and the last day that a choice with the most different days gives to it; `days` is such a choice.
+// Writes for each lot its bound supports: the first and the last day that a choice with the most different days gives to
+// it; `days` is such a choice.
 // That `hull` is as long as the season is a clause: the two come from different hands, so no one type can hold both.
 pub fn most_hull(season: Season, days: &[u32], hull: &mut [Window])
     requires each { length hull.old ≡ length season.windows.now }
@@ -29,61 +31,62 @@ pub fn most_hull(season: Season, days: &[u32], hull: &mut [Window])
     }
 }
 
-// The same with a seat for each day, all free.
-fn hull_in(season: Season, days: &[u32], holders: &mut [Option<u16>], hull: &mut [Window])
+// The same with room for a mate of each day, and none in it.
+fn hull_in(season: Season, days: &[u32], mates: &mut [Option<u16>], hull: &mut [Window])
     requires each { length hull.old ≡ length season.windows.now }
     requires best { Best season.windows.now days.now }
-    requires free { (d : ℕ) → Free holders.old d }
-    requires ends { EndBefore (length holders.old) season.windows.now }
+    requires free { (d : ℕ) → Unmatched mates.old d }
+    requires ends { EndBefore (length mates.old) season.windows.now }
     ensures { Hull season.entry.windows.now (HasMost season.entry.windows.now) hull.new }
 {
     let mut flags = [false; ROOM];
-    let loose = &mut flags[..season.windows.len()];
-    seat(days, holders, loose);
-    spread(season, days, holders, loose);
-    let seats = Seats {
+    let spare = &mut flags[..season.windows.len()];
+    note_mates(days, mates, spare);
+    spread(season, days, mates, spare);
+    let matching = Matching {
         season,
         days,
-        holders,
-        loose,
+        mates,
+        spare,
     };
     for (lot, used) in hull.iter_mut().enumerate() {
-        *used = used_days(seats, lot);
+        *used = bound_supports(matching, lot);
     }
 }
 
 // The first and the last day that best choices give to a lot.
-// That the seats are those of a best choice, and that there is such a lot, are about arguments, so clauses here and in what follows.
-fn used_days(seats: Seats, lot: usize) -> Window
-    requires seats { SeatsOf seats.season.windows.now seats.days.now seats.holders.now seats.loose.now }
-    requires there { lot < length seats.season.windows.now }
-    ensures { UsedDays seats.entry.season.windows.now lot result }
+// That the matching is that of a best choice, and that there is such a lot, are clauses here and in what follows.
+fn bound_supports(matching: Matching, lot: usize) -> Window
+    requires matching { IsMatching matching }
+    requires there { lot < length matching.season.windows.now }
+    ensures { BoundSupports matching.entry.season.windows.now lot result }
 {
-    if seats.loose[lot] {
-        return seats.season.windows[lot];
+    if matching.spare[lot] {
+        return matching.season.windows[lot];
     }
     Window {
-        low: first_day(seats, lot),
-        high: last_day(seats, lot),
+        low: first_day(matching, lot),
+        high: last_day(matching, lot),
     }
 }
 
-// The first day that a best choice gives to a lot which is not loose: past each block that shuts it out. One walk for all of them, so that no day is seen twice. A `while`, since each turn goes past a whole block.
-fn first_day(seats: Seats, lot: usize) -> u32
-    requires seats { SeatsOf seats.season.windows.now seats.days.now seats.holders.now seats.loose.now }
-    requires there { lot < length seats.season.windows.now }
-    requires bound { Bound seats.loose.now lot }
-    ensures reached { Reached seats.entry.season.windows.now lot result }
-    ensures first { NoneBefore seats.entry.season.windows.now lot result }
+// The first day that a best choice gives to a lot which is not spare: past each block that shuts it out. What is seen is
+// kept from block to block, so that no day is seen twice. A `while`, since each turn goes past a whole block.
+fn first_day(matching: Matching, lot: usize) -> u32
+    requires matching { IsMatching matching }
+    requires there { lot < length matching.season.windows.now }
+    requires bound { Unset matching.spare.now lot }
+    ensures reached { Supported matching.entry.season.windows.now lot result }
+    ensures first { NoneBefore matching.entry.season.windows.now lot result }
 {
-    let mut day = seats.season.windows[lot].low;
-    let mut walk = Walk::at(day);
-    while day < seats.days[lot] {
-        if !shut_out(seats, lot, day, &mut walk) {
+    let mut day = matching.season.windows[lot].low;
+    let mut reach = Reach::at(day);
+    while day < matching.days[lot] {
+        if !shut_out(matching, lot, day, &mut reach) {
             return day;
         }
-        day = walk.high + 1;
-        walk.widen(Window {
+        day = reach.high + 1;
+        reach.widen(Window {
             low: day,
             high: day,
         });
@@ -92,21 +95,21 @@ fn first_day(seats: Seats, lot: usize) -> u32
 }
 
 // The last one, from the other side.
-fn last_day(seats: Seats, lot: usize) -> u32
-    requires seats { SeatsOf seats.season.windows.now seats.days.now seats.holders.now seats.loose.now }
-    requires there { lot < length seats.season.windows.now }
-    requires bound { Bound seats.loose.now lot }
-    ensures reached { Reached seats.entry.season.windows.now lot result }
-    ensures last { NoneAfter seats.entry.season.windows.now lot result }
+fn last_day(matching: Matching, lot: usize) -> u32
+    requires matching { IsMatching matching }
+    requires there { lot < length matching.season.windows.now }
+    requires bound { Unset matching.spare.now lot }
+    ensures reached { Supported matching.entry.season.windows.now lot result }
+    ensures last { NoneAfter matching.entry.season.windows.now lot result }
 {
-    let mut day = seats.season.windows[lot].high;
-    let mut walk = Walk::at(day);
-    while seats.days[lot] < day {
-        if !shut_out(seats, lot, day, &mut walk) {
+    let mut day = matching.season.windows[lot].high;
+    let mut reach = Reach::at(day);
+    while matching.days[lot] < day {
+        if !shut_out(matching, lot, day, &mut reach) {
             return day;
         }
-        day = walk.low - 1;
-        walk.widen(Window {
+        day = reach.low - 1;
+        reach.widen(Window {
             low: day,
             high: day,
         });

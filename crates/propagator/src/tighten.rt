@@ -1,14 +1,11 @@
 // The tightest windows of one rule: bound consistency of a single nvalue constraint.
-ghost use Rattle.std.specs.Prelude.{◌≡◌, ℕ, ◌≤◌, List, length, MatchOption, MatchResult};
-ghost use Rattle.std.specs.List.{AllByRecursion};
-ghost use Rattle.std.specs.List.Sorted.{IsNonDecreasingBy, IsPermutation};
-ghost use Rattle.extremes.specs.Orders.{slots};
-ghost use Rattle.extremes.specs.Points.{Points};
-ghost use Rattle.propagator.specs.BestDays.{Best};
-ghost use Rattle.nvalue.specs.Choices.{Choice};
-ghost use Rattle.store.specs.Sound.{Sound};
+ghost use Rattle.std.specs.Prelude.{◌≡◌, ◌≤◌, length, None};
+ghost use Rattle.extremes.specs.Orders.{ByLastDay};
+ghost use Rattle.extremes.specs.Stabbing.{StabbingPoints};
+ghost use Rattle.propagator.specs.Supports.{Best};
 ghost use Rattle.nvalue.specs.Nvalue.{Counts};
-ghost use Rattle.propagator.specs.Tight.{Hull, IsGreatest, IsLeast, NoSuchChoice, Tightens, Tightest};
+ghost use Rattle.extremes.specs.Shown.{IsGreatest, IsLeast};
+ghost use Rattle.propagator.specs.Tight.{Hull, Tightens, TightensTo};
 
 use crate::fewest_hull::{fewest_hull, points_of};
 use crate::most_hull::most_hull;
@@ -44,7 +41,7 @@ pub fn tighten<'a>(
 // That `hull` is as long as the season is a clause: the two come from different hands, so no one type can hold both.
 fn tighten_in(season: Season, count: CountWindow, hull: &mut [Window]) -> Option<CountWindow>
     requires each { length hull.old ≡ length season.windows.now }
-    ensures tightest { MatchOption result (NoSuchChoice season.entry.windows.now count.floor count.ceiling) (λ tight. Tightest season.entry.windows.now count.floor count.ceiling hull.new tight.floor tight.ceiling) }
+    ensures tightest { TightensTo season.entry.windows.now count hull.new result }
     ensures stays { result ≡ None → hull.new ≡ hull.old }
 {
     let lots = season.windows.len();
@@ -66,8 +63,8 @@ fn tighten_in(season: Season, count: CountWindow, hull: &mut [Window]) -> Option
     CountWindow::new(floor.max(least), ceiling.min(most))
 }
 
-// Writes the tightest windows. A day is lost only where the ceiling is the least count or the floor the greatest, and not every choice has that count.
-// The points of a choice with the fewest days are as many as the least count, and `days` are a choice with the greatest.
+// Writes the tightest windows. A day is lost only where the ceiling is the least count or the floor the greatest, and not
+// every choice has that count. The stabbing points are as many as the least count; `days` are a choice with the greatest.
 fn write_hull(
     season: Season,
     points: &[u32],
@@ -77,7 +74,7 @@ fn write_hull(
     hull: &mut [Window],
 )
     requires each { length hull.old ≡ length season.windows.now }
-    requires points { Points season.windows.now points.now }
+    requires points { StabbingPoints season.windows.now points.now }
     requires least { IsLeast season.windows.now (length points.now) }
     requires best { Best season.windows.now days.now }
     requires most { IsGreatest season.windows.now most }
@@ -100,8 +97,7 @@ fn write_hull(
 // Writes a choice with the most different days, and answers how many it has.
 fn best_of(season: Season, order: &[Slot], days: &mut [u32]) -> u32
     requires each { length days.old ≡ length season.windows.now }
-    requires shuffled { IsPermutation (slots 0 season.windows.now) order.now }
-    requires rises { IsNonDecreasingBy (λ s. s.0) order.now }
+    requires order { ByLastDay season.windows.now order.now }
     ensures best { Best season.entry.windows.now days.new }
     ensures most { IsGreatest season.entry.windows.now result }
 {

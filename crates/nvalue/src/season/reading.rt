@@ -1,7 +1,7 @@
 // Reading the windows of a store into lent room.
 ghost use Rattle.std.specs.Prelude.{◌≡◌, ◌<◌, ◌≤◌, length, drop, take};
 ghost use Rattle.store.specs.Checks.{Checked};
-ghost use Rattle.nvalue.specs.Seasons.{season_checks, CountsLots, Filled};
+ghost use Rattle.nvalue.specs.Seasons.{Filled, Reads};
 
 use super::making::first_faulty;
 use super::{ROOM, SeasonFault};
@@ -15,7 +15,7 @@ pub fn read_windows<S: WindowStore>(
     store: &S,
     room: &mut [Window; ROOM],
 ) -> Result<usize, SeasonFault>
-    ensures checked { Checked (season_checks (S.WindowStore.windows store.now)) result (CountsLots (S.WindowStore.windows store.now)) (Unit {0}) }
+    ensures checked { Reads (S.WindowStore.windows store.now) result }
     ensures filled { Filled (S.WindowStore.windows store.now) room.old room.new }
 {
     let lots = store.lots();

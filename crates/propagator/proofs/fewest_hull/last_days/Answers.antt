@@ -3,7 +3,7 @@ use Rattle.std.proofs.Common.{◌<◌, [], ◌∷◌, ◌++◌, length, get_or, 
 use Rattle.std.proofs.ByRecursion.{All-get_or}
 use Rattle.std.proofs.lemmas.List.{map_more, take_all, take_more_set}
 use Rattle.store.specs.Windows.{window_at}
-use Rattle.extremes.specs.Points.{lasts}
+use Rattle.extremes.specs.Stabbing.{lasts}
 use Rattle.propagator.proofs.fewest_hull.last_days.Goals as goal
 
 pub bounds-windows-lot : goal.bounds-windows-lot

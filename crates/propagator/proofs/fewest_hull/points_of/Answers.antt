@@ -2,7 +2,7 @@
 use Rattle.std.proofs.Common.{◌≡◌, ◌-◌, ◌<◌, length, take, sym, ap, ◌∙◌, subst, arith, rules}
 use Rattle.std.specs.List.{AllByRecursion}
 use Rattle.std.proofs.lemmas.List.{length-append, length-map, places, take_at}
-use Rattle.extremes.specs.Points.{lasts, Points}
+use Rattle.extremes.specs.Stabbing.{lasts, StabbingPoints}
 use Rattle.propagator.proofs.fewest_hull.points_of.Goals as goal
 
 pub last_days-requires : goal.last_days-requires
@@ -23,7 +23,7 @@ returns c =
     let are : days ≡ lasts ws (take m c.serve-count.new.lots) = c.last_days.ensures ∙ ap (λ k. lasts ws (take k c.serve-count.new.lots)) z in
     let many : length days ≡ m = ap length are ∙ length-map _ _ ∙ c.serve-count.ensures.shown.many in
     record {
-      points = subst (Points ws) (sym (take_at days _ m many ∙ are)) c.serve-count.ensures.points;
+      points = subst (StabbingPoints ws) (sym (take_at days _ m many ∙ are)) c.serve-count.ensures.points;
       few = simp length-append (omega arith);
       least = record {
         reached = (c.serve-count.new.days, c.serve-count.ensures.shown.choice, c.serve-count.ensures.shown.count);

@@ -1,14 +1,14 @@
 -- No best choice gives the lot a day past this one, which is not before its own.
 use Rattle.std.proofs.Common.{◌-◌, ◌<◌, ◌≤◌, length, get_or}
 use Rattle.store.specs.Windows.{window_at}
-use Rattle.propagator.specs.BestDays.{NoneAfter}
-use Rattle.propagator.specs.Walks.{Facing}
+use Rattle.propagator.specs.Supports.{NoneAfter}
+use Rattle.propagator.specs.Reach.{Facing}
 use Rattle.propagator.proofs.most_hull.last_day.Given as goal
 
 abbrev pub invariant-loop-day : goal.invariant-loop-day
 invariant-loop-day l =
-    (l.day ≤ (window_at l.seats.season.windows.now l.lot).high) × (get_or l.seats.days.now l.lot 0 ≤ l.day) × NoneAfter l.seats.season.windows.now l.lot l.day
-    × Facing l.seats.season.windows.now l.seats.days.now l.seats.loose.now l.lot l.day l.walk × (l.walk.high < length l.seats.holders.now)
+    (l.day ≤ (window_at l.matching.season.windows.now l.lot).high) × (get_or l.matching.days.now l.lot 0 ≤ l.day) × NoneAfter l.matching.season.windows.now l.lot l.day
+    × Facing l.matching.season.windows.now l.matching.days.now l.matching.spare.now l.lot l.day l.reach × (l.reach.high < length l.matching.mates.now)
 
 abbrev pub decreases-loop-day : goal.decreases-loop-day
-decreases-loop-day l = l.day - get_or l.seats.days.now l.lot 0
+decreases-loop-day l = l.day - get_or l.matching.days.now l.lot 0
