@@ -5,12 +5,12 @@ use Rattle.std.proofs.Math.Nat.{mul-le-mul_left}
 use Rattle.std.proofs.lemmas.Bool.Decides.{nat_tests}
 use Rattle.std.proofs.lemmas.Nat.{div-mul-add}
 use Rattle.calendar.proofs.Layers.{Layer, Cuts}
-use Rattle.calendar.specs.Calendars.{in_periods, period_days, period_window, end_of}
+use Rattle.calendar.specs.Calendars.{in_periods, period_days, period_window}
 use Rattle.store.proofs.Verdicts.{Moving}
 use Rattle.store.specs.declared.half_line.HalfLine.{HalfLine}
 use Rattle.store.specs.declared.half_line.HalfLine.TheVariants.{From, UpTo}
 use Rattle.store.specs.declared.window.Window.{Window}
-use Rattle.store.specs.Windows.{window, window_at, found, trimmed, Within, Misses, Narrower}
+use Rattle.store.specs.Windows.{end_of, window, window_at, found, trimmed, Within, Misses, Narrower}
 
 module _ (days : ℕ) (some : 1 ≤ days) where
   -- a day and a period: how the period of the day and the ends of the period lie

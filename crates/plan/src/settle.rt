@@ -6,7 +6,7 @@ ghost use Rattle.store.specs.Windows.{window_at, Narrowed, Narrower, Onward};
 ghost use Rattle.guard.specs.Cleared.{Cleared};
 ghost use Rattle.propagation.specs.Problems.{sheet_in};
 ghost use Rattle.sheet.specs.Books.{sheet_of};
-ghost use Rattle.plan.specs.Ready.{lent_checks};
+ghost use Rattle.plan.specs.Ready.{slip_checks};
 ghost use Rattle.plan.specs.Settles.{NoneExactly, Settles, SettlesBy};
 
 use crate::ready::take_problem;
@@ -53,7 +53,7 @@ fn settle_on<S: WindowStore>(
     words: &mut [u32],
 ) -> Result<(), SheetFault>
     ensures settles { SettlesBy
-        (lent_checks slip.now.lots slip.now.rules (S.WindowStore.windows store.old) book.old)
+        (slip_checks slip.now.lots slip.now.rules (S.WindowStore.windows store.old) book.old)
         (S.WindowStore.windows store.old) book.old result (S.WindowStore.windows store.new) book.new }
     ensures reach { Onward (S.WindowStore.reached store.old) (S.WindowStore.reached store.new)
         (S.WindowStore.windows store.new) }

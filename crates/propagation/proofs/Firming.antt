@@ -15,7 +15,8 @@ use Rattle.rules.specs.Sheets.{Sheet, sheet, row, rule_at, under}
 use Rattle.rules.specs.Firm.{Counted, Firm, FirmRule, Inside, NoFirm, Stricter, Supported}
 use Rattle.rules.proofs.Inside.{choice_narrower, each_drop, each_part, each_refl, each_take, stricter_refl}
 use Rattle.propagator.specs.Tight.{NoSuchChoice, Tightest}
-use Rattle.propagation.specs.Changes.{recounted, written}
+use Rattle.rules.specs.Sheets.{recounted}
+use Rattle.propagation.specs.Changes.{written}
 use Rattle.propagation.specs.Runs.{MakesFirm}
 use Rattle.propagation.proofs.Each.{each_append, each_from_get_or, each_set_left, each_set_right}
 use Rattle.propagation.proofs.Writing.{split_part, written_part}

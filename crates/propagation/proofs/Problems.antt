@@ -7,7 +7,7 @@ use Rattle.std.proofs.Math.Seq.{take-set-lt}
 use Rattle.rules.specs.Sheets.{Fits, row, rule_at}
 use Rattle.propagation.specs.declared.problem.Problem.{Problem}
 use Rattle.propagation.specs.Problems.{sheet_in}
-use Rattle.propagation.specs.Changes.{recounted}
+use Rattle.rules.specs.Sheets.{recounted}
 
 -- a window for each lot
 pub problem_lots : (p : Problem) → length (sheet_in p).windows ≡ p.lots

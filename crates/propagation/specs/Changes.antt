@@ -2,8 +2,7 @@
 use Rattle.std.specs.Prelude.{ℕ, ◌+◌, List, ◌++◌, length, take, drop, slice_set}
 use Rattle.store.specs.declared.window.Window.{Window}
 use Rattle.nvalue.specs.declared.count_window.CountWindow.{CountWindow}
-use Rattle.rules.specs.Sheets.{Sheet, sheet, rule_at}
-use Rattle.rules.specs.declared.row.Row.{Row}
+use Rattle.rules.specs.Sheets.{Sheet, recounted, rule_at, sheet}
 
 abbrev pub with_window : ℕ → Window → Sheet → Sheet
 with_window lot w s = sheet (slice_set s.windows lot w) s.rules
@@ -14,9 +13,6 @@ written first us ws = take first ws ++ us ++ drop (first + length us) ws
 
 abbrev pub with_windows : ℕ → List Window → Sheet → Sheet
 with_windows first us s = sheet (written first us s.windows) s.rules
-
-abbrev pub recounted : Row → ℕ → ℕ → Row
-recounted r floor ceiling = record { stretch = r.stretch; floor = floor; ceiling = ceiling }
 
 abbrev pub with_count : ℕ → CountWindow → Sheet → Sheet
 with_count number count s =

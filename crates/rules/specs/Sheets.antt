@@ -16,6 +16,10 @@ sheet ws rules = record { windows = ws; rules = rules }
 abbrev pub row : ℕ → ℕ → ℕ → ℕ → Row
 row first len floor ceiling = record { stretch = record { first = first; length = len }; floor = floor; ceiling = ceiling }
 
+-- a rule with another count window
+abbrev pub recounted : Row → ℕ → ℕ → Row
+recounted r floor ceiling = record { stretch = r.stretch; floor = floor; ceiling = ceiling }
+
 -- the rule with a number; no matter what past the last rule
 abbrev pub rule_at : List Row → ℕ → Row
 rule_at rules number = slice_index_or rules number (row 0 0 0 0)

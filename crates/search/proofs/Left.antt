@@ -50,14 +50,14 @@ choice_single (w ∷ ws) (x ∷ xs) (y ∷ ys) (suc n) (b, c) (e, d) s =
     cc
 
 -- the only choice where no window has more than one day
-choice_lows : (ws : List Window) (ds : List ℕ) → AllByRecursion Single ws → Choice ws ds → ds ≡ lows ws
-choice_lows [] [] s c = refl
-choice_lows [] (d ∷ ds) s c = absurd c
-choice_lows (w ∷ ws) [] s c = absurd c
-choice_lows (w ∷ ws) (d ∷ ds) (s, ss) (b, c) = let h : d ≡ w.low = omega arith in let t = choice_lows ws ds ss c in cc
+choice_single_lows : (ws : List Window) (ds : List ℕ) → AllByRecursion Single ws → Choice ws ds → ds ≡ lows ws
+choice_single_lows [] [] s c = refl
+choice_single_lows [] (d ∷ ds) s c = absurd c
+choice_single_lows (w ∷ ws) [] s c = absurd c
+choice_single_lows (w ∷ ws) (d ∷ ds) (s, ss) (b, c) = let h : d ≡ w.low = omega arith in let t = choice_single_lows ws ds ss c in cc
 
 pub single_none : (s : Sheet) → AllByRecursion Single s.windows → (AllByRecursion (Keeps (lows s.windows)) s.rules → ⊥) → NoPlan s
-single_none s single out ds p = out (subst (λ es. AllByRecursion (Keeps es) s.rules) (choice_lows s.windows ds single p.choice) p.keeps)
+single_none s single out ds p = out (subst (λ es. AllByRecursion (Keeps es) s.rules) (choice_single_lows s.windows ds single p.choice) p.keeps)
 
 module _ (s : Sheet) (lot : ℕ) (there : lot < length s.windows) where
   -- a plan that gives the lot its first day is one of the fixed sheet

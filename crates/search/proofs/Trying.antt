@@ -9,7 +9,8 @@ use Rattle.store.proofs.Narrowing.{narrowed_same, narrowed_trans}
 use Rattle.rules.specs.Firm.{Firm}
 use Rattle.rules.specs.Plans.{Earliest, SamePlans}
 use Rattle.rules.specs.Sheets.{Sheet}
-use Rattle.search.specs.Search.{Open, Raised, Single, fixed, width}
+use Rattle.search.specs.Search.{Open, Raised, Single, fixed}
+use Rattle.propagation.specs.Widths.{width}
 use Rattle.search.proofs.Left.{earliest_fixed, same_earliest, same_refl, same_trans, single_narrower}
 use Rattle.search.proofs.Widths.{width_fixed, width_fixed_open, width_narrower}
 

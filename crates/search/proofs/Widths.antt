@@ -3,7 +3,8 @@ use Rattle.std.proofs.Common.{◌≡◌, ℕ, zero, suc, ◌+◌, ◌-◌, ◌<�
 use Rattle.store.specs.declared.window.Window.{Window}
 use Rattle.store.specs.Windows.{window, window_at, Narrowed}
 use Rattle.rules.specs.Sheets.{Sheet}
-use Rattle.search.specs.Search.{width, fixed, from_day}
+use Rattle.search.specs.Search.{fixed, from_day}
+use Rattle.propagation.specs.Widths.{width}
 
 pub width_set : (ws : List Window) (i : ℕ) (w : Window) → i < length ws → width (set ws i w) + ((window_at ws i).high - (window_at ws i).low) ≡ width ws + (w.high - w.low)
 width_set [] i w h = absurd (omega arith)

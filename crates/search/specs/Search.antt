@@ -1,5 +1,5 @@
 -- What the search for the earliest plan speaks of.
-use Rattle.std.specs.Prelude.{ℕ, ◌+◌, ◌-◌, ◌<◌, ◌≤◌, List, [], ◌∷◌, length}
+use Rattle.std.specs.Prelude.{ℕ, ◌+◌, ◌<◌, ◌≤◌, List, length}
 use Rattle.std.specs.List.{AllByRecursion}
 use Rattle.store.specs.declared.window.Window.{Window}
 use Rattle.store.specs.Sound.{Sound}
@@ -8,6 +8,7 @@ use Rattle.rules.specs.Firm.{Firm}
 use Rattle.rules.specs.Plans.{SamePlans}
 use Rattle.rules.specs.Sheets.{Sheet}
 use Rattle.propagation.specs.Changes.{with_window}
+use Rattle.propagation.specs.Widths.{width}
 
 -- a window with no choice: its last day is not after its first
 abbrev pub Single : Window → Type 0
@@ -30,11 +31,6 @@ fixed lot s = with_window lot (window (window_at s.windows lot).low (window_at s
 -- the sheet with another first day for a lot
 abbrev pub from_day : ℕ → ℕ → Sheet → Sheet
 from_day lot day s = with_window lot (window day (window_at s.windows lot).high) s
-
--- the days that all windows together have, each beyond its first
-abbrev pub width : List Window → ℕ
-width [] = 0
-width (w ∷ ws) = (w.high - w.low) + width ws
 
 -- The sheet t is left of s once a day has failed: firm, inside s, with a day less at least, and with the same plans.
 pub record Raised (s t : Sheet) : Type 0 where

@@ -6,7 +6,7 @@ use Rattle.store.specs.declared.fault.StoreFault.TheVariants.{NoSuchLot, WouldEm
 use Rattle.store.specs.declared.half_line.HalfLine.{HalfLine}
 use Rattle.store.specs.declared.half_line.HalfLine.TheVariants.{From, UpTo}
 use Rattle.store.specs.declared.window.Window.{Window}
-use Rattle.store.specs.Windows.{window_at, Within, Misses, Trims}
+use Rattle.store.specs.Windows.{end_of, window_at, Within, Misses, Trims}
 use Rattle.rules.specs.declared.row.Row.{Row}
 use Rattle.rules.specs.Sheets.{rule_at}
 use Rattle.sheet.specs.declared.book.Book.{Book}
@@ -19,18 +19,13 @@ use Rattle.sheet.specs.Drafts.{Agree}
 abbrev pub AllAgree : ℕ → ℕ → Book → List Window → Type 0
 AllAgree lots rules book ws = Agree lots rules book × (lots ≡ length ws)
 
--- the number at which a half-line ends
-abbrev pub end_of : HalfLine → ℕ
-end_of (From number) = number
-end_of (UpTo number) = number
-
 -- the store's own refusal, whole, with the lot
 abbrev pub of_store : ℕ → StoreFault → SheetFault
 of_store lot fault = Store (record { lot = lot; fault = fault })
 
 -- the checks of an ask for a lot's days, over the windows of a store
-abbrev pub day_checks : ℕ → HalfLine → ℕ → ℕ → Book → List Window → List (SheetFault → Type 0)
-day_checks lot days lots rules book ws =
+abbrev pub ask_day_checks : ℕ → HalfLine → ℕ → ℕ → Book → List Window → List (SheetFault → Type 0)
+ask_day_checks lot days lots rules book ws =
     refuse Mismatch (AllAgree lots rules book ws → ⊥)
     ∷ refuse NoSuchDay (9999 < end_of days)
     ∷ refuse (of_store lot NoSuchLot) (length ws ≤ lot)
@@ -40,7 +35,7 @@ day_checks lot days lots rules book ws =
 -- The lot is to be extracted on a day of the half-line.
 abbrev pub AsksDays : ℕ → HalfLine → ℕ → ℕ → Book → List Window → Result (Unit {0}) SheetFault → List Window → Type 0
 AsksDays lot days lots rules book was r is =
-    Checked (day_checks lot days lots rules book was) r (λ _. Trims was lot days (Ok tt) is) (is ≡ was)
+    Checked (ask_day_checks lot days lots rules book was) r (λ _. Trims was lot days (Ok tt) is) (is ≡ was)
 
 -- not before: the lot's first day is to be that day or later; not after: its last day is to be that day or earlier
 abbrev pub NotBefore : ℕ → ℕ → ℕ → ℕ → Book → List Window → Result (Unit {0}) SheetFault → List Window → Type 0
@@ -55,8 +50,8 @@ tightened (From number) r = record { stretch = r.stretch; floor = max r.floor nu
 tightened (UpTo number) r = record { stretch = r.stretch; floor = r.floor; ceiling = min r.ceiling number }
 
 -- the checks of an ask for a rule's counts
-abbrev pub count_checks : ℕ → HalfLine → ℕ → ℕ → Book → List (SheetFault → Type 0)
-count_checks rule counts lots rules book =
+abbrev pub ask_count_checks : ℕ → HalfLine → ℕ → ℕ → Book → List (SheetFault → Type 0)
+ask_count_checks rule counts lots rules book =
     refuse Mismatch (Agree lots rules book → ⊥)
     ∷ refuse (NoSuchRule rule) (length (rules_of book) ≤ rule)
     ∷ refuse (NoCountLeft rule) (NoneLeft (tightened counts (rule_at (rules_of book) rule)))
@@ -68,7 +63,7 @@ count_checks rule counts lots rules book =
 -- The rule's stretch is to have a count of the half-line.
 abbrev pub AsksCounts : ℕ → HalfLine → ℕ → ℕ → Book → Result (Unit {0}) SheetFault → Book → Type 0
 AsksCounts rule counts lots rules was r is =
-    Checked (count_checks rule counts lots rules was) r
+    Checked (ask_count_checks rule counts lots rules was) r
     (λ _. (lots_of is ≡ lots_of was)
     × (rules_of is ≡ slice_set (rules_of was) rule (tightened counts (rule_at (rules_of was) rule))))
     (is ≡ was)

@@ -24,6 +24,11 @@ low_at ws place = cond (nat_lt place (length ws)) (Some (window_at ws place).low
 abbrev pub high_at : List Window → ℕ → Option ℕ
 high_at ws place = cond (nat_lt place (length ws)) (Some (window_at ws place).high) None
 
+-- the number at which a half-line ends
+abbrev pub end_of : HalfLine → ℕ
+end_of (From number) = number
+end_of (UpTo number) = number
+
 -- the days of a window that lie in a half-line: those from a day on, or those up to a day
 abbrev pub trimmed : HalfLine → Window → Window
 trimmed (From day) w = window day w.high

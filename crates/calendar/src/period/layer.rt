@@ -1,10 +1,10 @@
 // The period layer: any store, read in periods of a fixed number of days, as weeks.
 ghost use Rattle.std.specs.Prelude.{◌≡◌, ℕ, ◌*◌, ◌^◌, ◌<◌, List, map, IfSome};
-ghost use Rattle.calendar.specs.Calendars.{period_of, in_periods, period_days, period_window, end_of};
+ghost use Rattle.calendar.specs.Calendars.{period_of, in_periods, period_days, period_window};
 ghost use Rattle.std.proofs.Common.{ap, ap₂, ◌∙◌};
 ghost use Rattle.store.proofs.Each.{each_same, where_same_same};
 ghost use Rattle.store.specs.Each.{each};
-ghost use Rattle.store.specs.Windows.{window, found, low_at, high_at};
+ghost use Rattle.store.specs.Windows.{end_of, window, found, low_at, high_at};
 ghost use Rattle.store.specs.declared.window.Window.{Window};
 
 use super::PeriodLength;

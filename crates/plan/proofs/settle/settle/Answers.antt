@@ -5,7 +5,7 @@ use Rattle.store.proofs.Checks.{checked_after}
 use Rattle.store.proofs.Narrowing.{onward_here}
 use Rattle.guard.proofs.Cleared.{words_cleared}
 use Rattle.sheet.specs.declared.fault.SheetFault.TheVariants.{ShortWork}
-use Rattle.plan.specs.Ready.{lent_checks}
+use Rattle.plan.specs.Ready.{slip_checks}
 use Rattle.plan.specs.Settles.{Settled, Settles, none_firm}
 use Rattle.plan.proofs.Exactly.{settles_exactly}
 use Rattle.plan.proofs.settle.settle.Goals as goal
@@ -20,7 +20,7 @@ returns g c =
     let n = c.args.slip.now.rules in
     let work = length c.args.work.now in
     let settles : Settles work lots n ws book c.settle_on.result is now' =
-    checked_after (refuse ShortWork (work < 4096) ∷ []) (lent_checks lots n ws book ++ none_firm ws book ∷ []) c.settle_on.result (λ _. Settled ws book is now') ((is ≡ ws) × (now' ≡ book))
+    checked_after (refuse ShortWork (work < 4096) ∷ []) (slip_checks lots n ws book ++ none_firm ws book ∷ []) c.settle_on.result (λ _. Settled ws book is now') ((is ≡ ws) × (now' ≡ book))
     (λ e h. omega (arith, h.0), tt) c.settle_on.ensures.settles in
     record {
       settles = settles;

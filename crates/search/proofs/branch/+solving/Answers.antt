@@ -5,7 +5,8 @@ use Rattle.std.proofs.lemmas.Bool.Decides.{not_from_Decides}
 use Rattle.rules.proofs.Lows.{earliest_lows}
 use Rattle.rules.proofs.Points.{settled_plans, no_firm_no_plan_lem}
 use Rattle.propagation.specs.Problems.{sheet_in}
-use Rattle.search.specs.Search.{Raised, Single, width}
+use Rattle.search.specs.Search.{Raised, Single}
+use Rattle.propagation.specs.Widths.{width}
 use Rattle.search.proofs.Left.{same_answer, single_none}
 use Rattle.search.proofs.Trying.{trying_none, trying_more, trying_found}
 use Rattle.search.proofs.Unmoved.{firm_others}

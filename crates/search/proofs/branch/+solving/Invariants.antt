@@ -1,6 +1,7 @@
 use Rattle.std.proofs.Common.{◌+◌, ◌*◌}
 use Rattle.propagation.specs.Problems.{sheet_in}
-use Rattle.search.specs.Search.{fixed, width}
+use Rattle.search.specs.Search.{fixed}
+use Rattle.propagation.specs.Widths.{width}
 use Rattle.search.proofs.Trying.{Trying}
 use Rattle.search.proofs.branch.+solving.Given as goal
 

@@ -4,7 +4,7 @@ use Rattle.std.proofs.ByRecursion.{All-set}
 use Rattle.std.proofs.lemmas.List.{length-set}
 use Rattle.rules.specs.Sheets.{Fits, rule_at, sheet}
 use Rattle.propagation.specs.Problems.{sheet_in}
-use Rattle.propagation.specs.Changes.{recounted}
+use Rattle.rules.specs.Sheets.{recounted}
 use Rattle.propagation.proofs.Problems.{rows_recounted, rule_fits}
 use Rattle.propagation.proofs.problem.Problem.recount.Goals as goal
 
