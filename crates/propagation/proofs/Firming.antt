@@ -21,8 +21,8 @@ use Rattle.propagation.specs.Runs.{MakesFirm}
 use Rattle.propagation.proofs.Each.{each_append, each_from_get_or, each_set_left, each_set_right}
 use Rattle.propagation.proofs.Writing.{split_part, written_part}
 
--- firmness of a rule speaks of the windows of its stretch only
-pub firm_rule_of : (vs ws : List Window) (r : Row) → under r ws ≡ vs → ((i : ℕ) → i < length vs → Supported vs r.floor r.ceiling i (window_at vs i).low)
+-- a rule is firm by what is known of the windows under it
+firm_rule_of : (vs ws : List Window) (r : Row) → under r ws ≡ vs → ((i : ℕ) → i < length vs → Supported vs r.floor r.ceiling i (window_at vs i).low)
     → ((i : ℕ) → i < length vs → Supported vs r.floor r.ceiling i (window_at vs i).high) → Counted vs r.floor → Counted vs r.ceiling → FirmRule ws r
 firm_rule_of vs ws r e low high floor ceiling = record {
   low = subst (λ ss. (i : ℕ) → i < length ss → Supported ss r.floor r.ceiling i (window_at ss i).low) (sym e) low;
@@ -30,9 +30,6 @@ firm_rule_of vs ws r e low high floor ceiling = record {
   floor = subst (λ ss. Counted ss r.floor) (sym e) floor;
   ceiling = subst (λ ss. Counted ss r.ceiling) (sym e) ceiling;
 }
-
-pub firm_rule_same : (ws is : List Window) (r : Row) → under r ws ≡ under r is → FirmRule ws r → FirmRule is r
-firm_rule_same ws is r e f = firm_rule_of (under r ws) is r (sym e) f.low f.high f.floor f.ceiling
 
 -- a day that some choice gives a lot
 abbrev Chosen : List Window → ℕ → ℕ → Type 0

@@ -7,13 +7,13 @@ use Rattle.std.proofs.lemmas.Bool.{cases_eq}
 use Rattle.store.specs.Sound.{Sound}
 use Rattle.rules.specs.Sheets.{Sheet, row, rule_at}
 use Rattle.rules.specs.Firm.{Firm, FirmRule, GreatestFirm, Inside}
+use Rattle.rules.proofs.Firm.{firm_rule_under}
 use Rattle.rules.proofs.Inside.{inside_refl, inside_trans}
 use Rattle.propagation.specs.declared.problem.Problem.{Problem}
 use Rattle.propagation.specs.declared.queue.Queue.{Queue}
 use Rattle.propagation.specs.Problems.{sheet_in}
 use Rattle.propagation.specs.Queues.{RestFirm, waits}
 use Rattle.propagation.specs.Runs.{Ran}
-use Rattle.propagation.proofs.Firming.{firm_rule_same}
 use Rattle.propagation.proofs.Problems.{rules_ordered}
 
 -- the present sheet lies inside the one at the start, no firm sheet is lost, and a rule that does not wait is firm
@@ -36,7 +36,7 @@ propagating_runs s t u k was left queue p e ran = record {
         let w = ran.wakes q h other f in
         let waited = sym (ap (λ fs. get_or fs q true) e ∙ get_or-set_other was.flags k q false true other) ∙ w.0 in
         let firm = p.rest q (omega (arith, length_all_zip _ u.rules t.rules ran.firm.inside.counts)) waited in
-        firm_rule_same t.windows u.windows (rule_at u.rules q) w.1 (subst (FirmRule t.windows) (sym (ran.firm.others q other)) firm)
+        firm_rule_under t.windows u.windows (rule_at u.rules q) w.1 (subst (FirmRule t.windows) (sym (ran.firm.others q other)) firm)
   ];
 }
 
