@@ -40,7 +40,8 @@ impl<S> Dispatch<S> {
 impl<S: WindowStore> Dispatch<S> {
     // A lot's window as the layer shows it.
     fn window(&self, place: usize) -> Option<Window>
-        ensures { result ≡ found (map (before_dispatch self.now.last) (S.WindowStore.windows self.now.below)) place }
+        ensures { result ≡ found
+            (map (before_dispatch self.now.last) (S.WindowStore.windows self.now.below)) place }
     {
         let low = shown(self.last, self.below.high(place))?;
         let high = shown(self.last, self.below.low(place))?;
@@ -88,8 +89,10 @@ impl<S: WindowStore> WindowStore for Dispatch<S> {
 // A day below, if there is one, as days before dispatch. Saturating on purpose: a day after dispatch shows as 0.
 // The clauses speak of every list that the day may be an end in: the layer shows it at the other end.
 fn shown(last: u32, day: Option<u32>) -> Option<u32>
-    ensures lows { (ws : List Window) (p : ℕ) → day ≡ high_at ws p → result ≡ low_at (map (before_dispatch last) ws) p }
-    ensures highs { (ws : List Window) (p : ℕ) → day ≡ low_at ws p → result ≡ high_at (map (before_dispatch last) ws) p }
+    ensures lows { (ws : List Window) (p : ℕ) → day ≡ high_at ws p → result ≡ low_at
+        (map (before_dispatch last) ws) p }
+    ensures highs { (ws : List Window) (p : ℕ) → day ≡ low_at ws p → result ≡ high_at
+        (map (before_dispatch last) ws) p }
 {
     Some(last.saturating_sub(day?))
 }

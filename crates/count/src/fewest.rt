@@ -11,9 +11,9 @@ use nvalue::season::Season;
 use nvalue::stretch::Stretch;
 use store::store::WindowStore;
 
-// The least count m that a choice for a stretch can have. Into the answer words go the days of such a choice, lot by lot,
-// and behind them the numbers of m of the stretch's lots, no two of which have a day in common: hence nobody needs fewer.
-// Which choice, which lots and in what order is free.
+// The least count m that a choice for a stretch can have. Into the answer words go the days of such a choice, lot
+// by lot, and behind them the numbers of m of the stretch's lots, no two of which have a day in common: hence
+// nobody needs fewer. Which choice, which lots and in what order is free.
 pub fn fewest<S: WindowStore>(
     store: &S,
     stretch: Stretch,

@@ -13,10 +13,10 @@ use nvalue::stretch::Stretch;
 use store::store::WindowStore;
 use store::window::Window;
 
-// The greatest count that a choice for a stretch can have, and how many runs prove it. Into the answer words go the days
-// of such a choice, lot by lot, and behind them each run's first and last day. No two runs have a day in common, each is
-// violated, and the surpluses of all of them are the lots that the count falls short by: hence nobody has more days.
-// Which choice, which runs and in what order is free.
+// The greatest count that a choice for a stretch can have, and how many runs prove it. Into the answer words go the
+// days of such a choice, lot by lot, and behind them each run's first and last day. No two runs have a day in
+// common, each is violated, and the surpluses of all of them are the lots that the count falls short by: hence
+// nobody has more days. Which choice, which runs and in what order is free.
 pub fn most<S: WindowStore>(
     store: &S,
     stretch: Stretch,

@@ -37,7 +37,8 @@ pub(crate) fn ask<Q: Question, S: WindowStore>(
     answer: &mut [u32],
     work: &mut [u32],
 ) -> Result<Q::Count, CountFault>
-    ensures asked { Asks Q.Question.Answers (S.WindowStore.windows store.now) stretch work.old answer.old result answer.new }
+    ensures asked { Asks Q.Question.Answers (S.WindowStore.windows store.now) stretch work.old answer.old result
+        answer.new }
     ensures cleared { Cleared work.old work.new }
 {
     if work.len() < WORDS {
@@ -54,7 +55,8 @@ fn ask_on<Q: Question, S: WindowStore>(
     words: &mut [u32],
 ) -> Result<Q::Count, CountFault>
     requires { length words.old ≡ 4096 }
-    ensures asked { AnsweredLent Q.Question.Answers (S.WindowStore.windows store.now) stretch answer.old result answer.new }
+    ensures asked { AnsweredLent Q.Question.Answers (S.WindowStore.windows store.now) stretch answer.old result
+        answer.new }
     ensures zero { (k : ℕ) → k < length words.new → slice_index words.new k ≡ 0 }
 {
     let guard = Guard { words };

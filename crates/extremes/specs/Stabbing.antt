@@ -8,8 +8,8 @@ use Rattle.nvalue.specs.Choices.{In}
 abbrev pub lasts : List Window → List ℕ → List ℕ
 lasts ws lots = map (λ lot. (window_at ws lot).high) lots
 
--- stabbing points, as few as can be: each window holds one, and each is the last day of a lot, its witness, whose window
--- begins past the points before
+-- stabbing points, as few as can be: each window holds one, and each is the last day of a lot, its witness, whose
+-- window begins past the points before
 pub record StabbingPoints (ws : List Window) (points : List ℕ) : Type 0 where
   pub holds : (i : ℕ) → i < length ws → (j : ℕ) × (j < length points) × In (window_at ws i) (slice_index points j)
   pub witness : ℕ → ℕ

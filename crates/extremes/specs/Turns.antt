@@ -20,7 +20,8 @@ pub record Takes (w : Window) (day : ℕ) (taken : List Bool) (runs : List Windo
   pub count : is.count ≡ most.count + 1
   pub top : is.runs ≡ most.runs
 
--- no day of the window is free: the unbroken run of taken days up to the window's last one takes the place of the runs in it
+-- no day of the window is free: the unbroken run of taken days up to the window's last one takes the place of the
+-- runs in it
 pub record LeftOver (w : Window) (day : ℕ) (taken : List Bool) (runs : List Window) (most : Most) (is_taken : List Bool) (is_runs : List Window) (is : Most) : Type 0 where
   pub start : ℕ
   pub kept : ℕ

@@ -31,7 +31,8 @@ pub fn most_of(season: Season, days: &mut [u32], runs: &mut [Window]) -> Most
     requires run_room { length season.windows.now ≤ length runs.old }
     ensures shown { MostOf season.entry.windows.now days.new runs.new result }
     ensures room { result.runs ≤ length season.entry.windows.now }
-    ensures rest { drop (length season.entry.windows.now) runs.new ≡ drop (length season.entry.windows.now) runs.old }
+    ensures rest { drop (length season.entry.windows.now) runs.new ≡ drop (length season.entry.windows.now)
+        runs.old }
 {
     let mut room = [(0, 0); ROOM];
     place_lots(season, by_last_day(season, &mut room), days, runs)
@@ -44,7 +45,8 @@ pub fn place_lots(season: Season, order: &[Slot], days: &mut [u32], runs: &mut [
     requires order { ByLastDay season.windows.now order.now }
     ensures shown { MostOf season.entry.windows.now days.new runs.new result }
     ensures room { result.runs ≤ length season.entry.windows.now }
-    ensures rest { drop (length season.entry.windows.now) runs.new ≡ drop (length season.entry.windows.now) runs.old }
+    ensures rest { drop (length season.entry.windows.now) runs.new ≡ drop (length season.entry.windows.now)
+        runs.old }
 {
     if end_before(season.windows, SHORT) {
         place_in(season, order, &mut [false; SHORT], days, runs)
@@ -75,7 +77,8 @@ fn place_in(
     requires ends { EndBefore (length taken.old) season.windows.now }
     ensures shown { MostOf season.entry.windows.now days.new runs.new result }
     ensures room { result.runs ≤ length season.entry.windows.now }
-    ensures rest { drop (length season.entry.windows.now) runs.new ≡ drop (length season.entry.windows.now) runs.old }
+    ensures rest { drop (length season.entry.windows.now) runs.new ≡ drop (length season.entry.windows.now)
+        runs.old }
 {
     let mut most = Most { count: 0, runs: 0 };
     for (_, place) in order {
@@ -84,8 +87,8 @@ fn place_in(
     most
 }
 
-// One lot's turn, and the day that it gets: the first free one of its window, or where none is free the window's first.
-// Then the run of taken days that ends with the window shows that the lot is left over.
+// One lot's turn, and the day that it gets: the first free one of its window, or where none is free the window's
+// first. Then the run of taken days that ends with the window shows that the lot is left over.
 // The window is sound by a clause: a type for a single one would be converted at each read of a slice.
 fn place_lot(window: Window, taken: &mut [bool], runs: &mut [Window], most: &mut Most) -> u32
     requires sound { Sound window }

@@ -1,5 +1,5 @@
-// The fewest different days of a list of windows: stabbing points of an interval graph. Lots in the order of their last
-// days take the last point, or open one at their own last day.
+// The fewest different days of a list of windows: stabbing points of an interval graph. Lots in the order of their
+// last days take the last point, or open one at their own last day.
 ghost use Rattle.std.specs.Prelude.{◌≡◌, ◌≤◌, length, take, drop};
 ghost use Rattle.extremes.specs.Orders.{ByLastDay};
 ghost use Rattle.extremes.specs.Shown.{FewestOf};

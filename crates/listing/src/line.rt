@@ -19,7 +19,8 @@ fn write_entry(word: &[u8], n: usize, out: &mut [u8]) -> usize
 
 // Two words with a number each, and the line end.
 pub fn write_pair(word: &[u8], m: usize, other: &[u8], n: usize, out: &mut [u8]) -> usize
-    requires { length word.now + length (decimal m) + (length other.now + length (decimal n)) + 1 ≤ length out.old }
+    requires { length word.now + length (decimal m) + (length other.now + length (decimal n)) + 1 ≤ length
+        out.old }
     ensures long { result ≡ length (pair_line word.now m other.now n) }
     ensures written { out.new ≡ over (pair_line word.now m other.now n) out.old }
 {

@@ -45,7 +45,8 @@ pub fn settle<S: WindowStore>(
     settle_on(slip, store, book, &mut work[0..WORDS])
 }
 
-// The same with the working words at hand, which are zero afterwards: what holds on every way out is promised here, once.
+// The same with the working words at hand, which are zero afterwards: what holds on every way out is promised here,
+// once.
 fn settle_on<S: WindowStore>(
     slip: &Closed,
     store: &mut S,

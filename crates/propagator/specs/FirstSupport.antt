@@ -10,9 +10,9 @@ Ascending xs = (i j : ℕ) → i < j → j < length xs → slice_index xs i < sl
 abbrev pub SomeFrom : ℕ → List ℕ → Type 0
 SomeFrom low points = (j : ℕ) × (j < length points) × (low ≤ slice_index points j)
 
--- The first day, from `low` on, that choices with the fewest different days use, as the stabbing points tell it. The
--- first point at or past `low` has a counterpart among the points of the mirror image, which come in the opposite order,
--- and in that point's place such choices use just the days between the two.
+-- The first day, from `low` on, that choices with the fewest different days use, as the stabbing points tell it.
+-- The first point at or past `low` has a counterpart among the points of the mirror image, which come in the
+-- opposite order, and in that point's place such choices use just the days between the two.
 pub record FirstSupport (low : ℕ) (points image : List ℕ) (day : ℕ) : Type 0 where
   pub place : ℕ
   pub there : place < length points

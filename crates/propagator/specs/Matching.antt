@@ -21,13 +21,15 @@ pub record Mated (t : ℕ) (days : List ℕ) (mates : List (Option ℕ)) (spare 
   pub mate : (day k : ℕ) → Mate mates day k → (k < t) × (slice_index days k ≡ day)
   pub matched : (k : ℕ) → k < t → (l : ℕ) × Mate mates (slice_index days k) l
   pub company : (k l : ℕ) → k < t → l < t → k ≢ l → slice_index days k ≡ slice_index days l → Set spare k
-  pub shared : (k : ℕ) → Set spare k → (k < t) × ((l : ℕ) × (l < t) × (l ≢ k) × (slice_index days l ≡ slice_index days k))
+  pub shared : (k : ℕ) → Set spare k → (k < t)
+      × ((l : ℕ) × (l < t) × (l ≢ k) × (slice_index days l ≡ slice_index days k))
 
 -- The spare lots: best choices give them any day of their windows. Lots that share a day are spare, and all days of a
 -- spare lot's window are those of spare lots.
 pub record Spared (ws : List Window) (days : List ℕ) (spare : List Bool) : Type 0 where
   pub any : (k : ℕ) → k < length ws → Set spare k → (day : ℕ) → In (window_at ws k) day → Supported ws k day
-  pub company : (k l : ℕ) → k < length ws → l < length ws → k ≢ l → slice_index days k ≡ slice_index days l → Set spare k
+  pub company : (k l : ℕ) → k < length ws → l < length ws → k ≢ l → slice_index days k ≡ slice_index days l
+      → Set spare k
   pub closed : (k : ℕ) → k < length ws → Set spare k → (day : ℕ) → In (window_at ws k) day
       → (l : ℕ) × (l < length ws) × Set spare l × (slice_index days l ≡ day)
 

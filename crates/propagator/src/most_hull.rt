@@ -16,9 +16,10 @@ use nvalue::season::{ROOM, Season};
 use store::limits::DAYS;
 use store::window::Window;
 
-// Writes for each lot its bound supports: the first and the last day that a choice with the most different days gives to
-// it; `days` is such a choice.
-// That `hull` is as long as the season is a clause: the two come from different hands, so no one type can hold both.
+// Writes for each lot its bound supports: the first and the last day that a choice with the most different days
+// gives to it; `days` is such a choice.
+// That `hull` is as long as the season is a clause: the two come from different hands, so no one type can hold
+// both.
 pub fn most_hull(season: Season, days: &[u32], hull: &mut [Window])
     requires each { length hull.old ≡ length season.windows.now }
     requires best { Best season.windows.now days.now }
@@ -70,8 +71,9 @@ fn bound_supports(matching: Matching, lot: usize) -> Window
     }
 }
 
-// The first day that a best choice gives to a lot which is not spare: past each block that shuts it out. What is seen is
-// kept from block to block, so that no day is seen twice. A `while`, since each turn goes past a whole block.
+// The first day that a best choice gives to a lot which is not spare: past each block that shuts it out. What is
+// seen is kept from block to block, so that no day is seen twice. A `while`, since each turn goes past a whole
+// block.
 fn first_day(matching: Matching, lot: usize) -> u32
     requires matching { IsMatching matching }
     requires there { lot < length matching.season.windows.now }

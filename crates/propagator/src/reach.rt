@@ -1,5 +1,5 @@
-// Alternating reachability: from a day to the days of its mate's window, and on from these. A block of days that can be
-// reached, and those of them that are seen.
+// Alternating reachability: from a day to the days of its mate's window, and on from these. A block of days that
+// can be reached, and those of them that are seen.
 ghost use Rattle.std.specs.Prelude.{◌+◌, ◌≤◌};
 
 use store::window::Window;
@@ -37,8 +37,8 @@ impl Reach {
         }
     }
 
-    // Sees one more day of those that can be reached, on the side of a goal first, which is speed and no promise; none is
-    // left where all are seen.
+    // Sees one more day of those that can be reached, on the side of a goal first, which is speed and no promise;
+    // none is left where all are seen.
     pub fn step(&mut self, goal: u32) -> Option<u32>
         ensures { Steps self.old result self.new }
     {

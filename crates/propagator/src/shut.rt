@@ -11,8 +11,8 @@ use crate::reach::Reach;
 use nvalue::season::Season;
 use store::window::Window;
 
-// The matching of a choice with the most different days: each lot's day, each day's mate, and the lots that can be spared.
-// That they are is about that choice (`Best`), so it is no proposition that a ghost field could hold.
+// The matching of a choice with the most different days: each lot's day, each day's mate, and the lots that can be
+// spared. That they are is about that choice (`Best`), so it is no proposition that a ghost field could hold.
 #[derive(Clone, Copy)]
 pub struct Matching<'a> {
     pub season: Season<'a>,
@@ -21,10 +21,10 @@ pub struct Matching<'a> {
     pub spare: &'a [bool],
 }
 
-// Is the lot shut out of a day, another than its own? Then of all days seen in the end; else a best choice gives it the
-// day. If the lot takes the day, the one that had it needs another of its window, and so on: an alternating path. Such
-// paths come to a free day, or to the lot's own; or else the days that they reach are all theirs.
-// Days that were seen for the lot before are not seen again.
+// Is the lot shut out of a day, another than its own? Then of all days seen in the end; else a best choice gives it
+// the day. If the lot takes the day, the one that had it needs another of its window, and so on: an alternating
+// path. Such paths come to a free day, or to the lot's own; or else the days that they reach are all theirs. Days
+// that were seen for the lot before are not seen again.
 pub fn shut_out(matching: Matching, lot: usize, day: u32, reach: &mut Reach) -> bool
     requires matching { IsMatching matching }
     requires there { lot < length matching.season.windows.now }

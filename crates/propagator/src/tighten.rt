@@ -63,8 +63,9 @@ fn tighten_in(season: Season, count: CountWindow, hull: &mut [Window]) -> Option
     CountWindow::new(floor.max(least), ceiling.min(most))
 }
 
-// Writes the tightest windows. A day is lost only where the ceiling is the least count or the floor the greatest, and not
-// every choice has that count. The stabbing points are as many as the least count; `days` are a choice with the greatest.
+// Writes the tightest windows. A day is lost only where the ceiling is the least count or the floor the greatest,
+// and not every choice has that count. The stabbing points are as many as the least count; `days` are a choice with
+// the greatest.
 fn write_hull(
     season: Season,
     points: &[u32],

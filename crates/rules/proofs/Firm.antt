@@ -33,7 +33,7 @@ module _ (ws : List Window) (a b : ℕ) where
   each_part [] f = tt
   each_part (r ∷ rules) (f, fs) =
       let here : lies a b r ≡ true → FirmRule (part ws a (b - a)) (renumbered a r) =
-          λ e. firm_rule_alike ws (part ws a (b - a)) r (renumbered a r) (sym (part_part ws a b r.stretch.first r.stretch.length (grind (arith, nat_tests)) (grind (arith, nat_tests)))) refl refl f in
+      λ e. firm_rule_alike ws (part ws a (b - a)) r (renumbered a r) (sym (part_part ws a b r.stretch.first r.stretch.length (grind (arith, nat_tests)) (grind (arith, nat_tests)))) refl refl f in
       cond_both (lies a b r) (r ∷ filter (lies a b) rules) (filter (lies a b) rules) (λ rs. AllByRecursion (FirmRule (part ws a (b - a))) (map (renumbered a) rs))
       (λ e. (here e, each_part rules fs)) (λ e. each_part rules fs)
 

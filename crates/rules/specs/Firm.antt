@@ -1,4 +1,5 @@
--- Firm sheets: each end of a window or of a count window has a support. In the field's words, every rule is bound consistent.
+-- Firm sheets: each end of a window or of a count window has a support. In the field's words, every rule is bound
+-- consistent.
 use Rattle.std.specs.Prelude.{◌≡◌, ℕ, ◌<◌, ◌≤◌, List, length, slice_index}
 use Rattle.std.specs.List.{AllZip, AllByRecursion}
 use Rattle.store.specs.declared.window.Window.{Window}

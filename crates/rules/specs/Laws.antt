@@ -17,9 +17,11 @@ NoFirmNoPlan = (s : Sheet) → NoFirm s → NoPlan s
 -- the days that a plan has for some lots in a row are a plan of the sheet of these lots
 abbrev pub PartsOfPlansArePlans : Type 0
 PartsOfPlansArePlans =
-    (s : Sheet) (ds : List ℕ) (a b : ℕ) → a ≤ b → b ≤ length s.windows → Plan s ds → Plan (part_of a b s) (part ds a (b - a))
+    (s : Sheet) (ds : List ℕ) (a b : ℕ) → a ≤ b → b ≤ length s.windows → Plan s ds
+    → Plan (part_of a b s) (part ds a (b - a))
 
--- where no stretch goes across the border before the lot p, the earliest plans of both sides, in a row, are the earliest of all
+-- where no stretch goes across the border before the lot p, the earliest plans of both sides, in a row, are the
+-- earliest of all
 abbrev pub EarliestPlansJoin : Type 0
 EarliestPlansJoin =
     (s : Sheet) (xs ys : List ℕ) (q p n : ℕ) → q ≤ p → p ≤ n → n ≤ length s.windows → Border p s.rules

@@ -30,8 +30,8 @@ fn solve(problem: &mut Problem, queue: Queue, limit: &mut FailLimit) -> Result<(
     solve_firm(problem, limit)
 }
 
-// The same where the sheet is firm. That it is (`Firm`) names choices, so it is no proposition that a ghost field could
-// hold.
+// The same where the sheet is firm. That it is (`Firm`) names choices, so it is no proposition that a ghost field
+// could hold.
 #[cycle(solving)]
 pub(crate) fn solve_firm(problem: &mut Problem, limit: &mut FailLimit) -> Result<(), Infeasible>
     requires firm { Firm (sheet_in problem.old) }
@@ -60,8 +60,9 @@ fn try_days(problem: &mut Problem, lot: usize, limit: &mut FailLimit) -> Result<
     Ok(())
 }
 
-// Fixes the lot at its first day: then the first days of all windows are the earliest plan with that day. Where there is
-// none, the problem stays. That there is such a lot is about an argument, so a clause here and in what follows.
+// Fixes the lot at its first day: then the first days of all windows are the earliest plan with that day. Where
+// there is none, the problem stays. That there is such a lot is about an argument, so a clause here and in what
+// follows.
 #[cycle(solving)]
 fn try_first(problem: &mut Problem, lot: usize, limit: &mut FailLimit) -> Result<(), Infeasible>
     requires firm { Firm (sheet_in problem.old) }

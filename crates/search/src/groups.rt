@@ -70,8 +70,8 @@ fn goes_across(stretch: Stretch, p: usize) -> bool
     stretch.first < p && stretch.has(p)
 }
 
-// The earliest plan of the lots from `start` on and before `end`, by the rules that lie there. The days after them stay.
-// The room is for the problem of these lots, which is firm as the whole is.
+// The earliest plan of the lots from `start` on and before `end`, by the rules that lie there. The days after them
+// stay. The room is for the problem of these lots, which is firm as the whole is.
 fn plan_part(
     problem: &Problem,
     start: usize,

@@ -1,6 +1,7 @@
-// A look for a proof that there is no plan: in order of lots the search can go back and forth over late lots for long,
-// while the trouble of an impossible sheet lies among others. Here the days of the tightest lots are tried first, in a
-// copy, with a bounded number of tries. A refusal is a proof that there is no plan, and an end without one says nothing.
+// A look for a proof that there is no plan: in order of lots the search can go back and forth over late lots for
+// long, while the trouble of an impossible sheet lies among others. Here the days of the tightest lots are tried
+// first, in a copy, with a bounded number of tries. A refusal is a proof that there is no plan, and an end without
+// one says nothing.
 ghost use Rattle.std.specs.Prelude.{◌<◌, ◌≤◌, length, IfErr};
 ghost use Rattle.rules.specs.Firm.{Firm};
 ghost use Rattle.rules.specs.Plans.{NoPlan};
@@ -16,7 +17,8 @@ use crate::waking::rules_over;
 use propagation::problem::Problem;
 use propagation::propagate::propagate;
 
-// Has the problem no plan? With so many tries at most. Where nothing is refused there is one, or the tries were used up.
+// Has the problem no plan? With so many tries at most. Where nothing is refused there is one, or the tries were
+// used up.
 pub(crate) fn prove_infeasible(problem: &Problem, tries: u32) -> Result<(), Infeasible>
     requires { Firm (sheet_in problem.now) }
     ensures { IfErr result (λ _. NoPlan (sheet_in problem.now)) }

@@ -24,8 +24,8 @@ impl FailLimit {
         }
     }
 
-    // No proof was found: as many days may fail now as the look had tries, and the next one has twice as many. So looks
-    // in vain take about as long as the search itself, and where it takes long they get many tries.
+    // No proof was found: as many days may fail now as the look had tries, and the next one has twice as many. So
+    // looks in vain take about as long as the search itself, and where it takes long they get many tries.
     pub(crate) fn renew(&mut self) {
         self.failures = Tries::new(self.tries);
         self.tries = self.tries.saturating_mul(2);

@@ -40,7 +40,8 @@ impl<S> Period<S> {
 impl<S: WindowStore> Period<S> {
     // A lot's window as the layer shows it: the first day of its last period is a word.
     fn window(&self, place: usize) -> Option<Window>
-        ensures value { result ≡ found (map (in_periods self.now.length.days) (S.WindowStore.windows self.now.below)) place }
+        ensures value { result ≡ found
+            (map (in_periods self.now.length.days) (S.WindowStore.windows self.now.below)) place }
         ensures word { IfSome result (λ w. self.now.length.days * w.high < 2 ^ 32) }
     {
         let low = shown(self.length, self.below.low(place))?;
@@ -88,8 +89,10 @@ impl<S: WindowStore> WindowStore for Period<S> {
 
 // The period of a day below, if there is one: that end of the window shown, whatever list the day is an end in.
 fn shown(length: PeriodLength, day: Option<u32>) -> Option<u32>
-    ensures lows { (ws : List Window) (p : ℕ) → day ≡ low_at ws p → result ≡ low_at (map (in_periods length.days) ws) p }
-    ensures highs { (ws : List Window) (p : ℕ) → day ≡ high_at ws p → result ≡ high_at (map (in_periods length.days) ws) p }
+    ensures lows { (ws : List Window) (p : ℕ) → day ≡ low_at ws p → result ≡ low_at
+        (map (in_periods length.days) ws) p }
+    ensures highs { (ws : List Window) (p : ℕ) → day ≡ high_at ws p → result ≡ high_at
+        (map (in_periods length.days) ws) p }
     ensures word { IfSome result (λ p. length.days * p < 2 ^ 32) }
 {
     Some(day? / length.days)
