@@ -47,7 +47,7 @@ fn five_lots_need_three_days(rt: HostRuntime) {
 }
 
 #[test]
-fn a_crowded_run_costs_a_day(rt: HostRuntime) {
+fn a_violated_run_costs_a_day(rt: HostRuntime) {
     let mut words = [1, 2, 1, 2, 1, 2, 2, 4, 4, 4];
     let mut answer = [NONE; 10];
     let got = many_of_all(&mut words, &mut answer);

@@ -1,4 +1,5 @@
-// Counts, fewest, most and tightest windows on worked examples, and each refusal at its edge. A crate of its own, so that the counting crates are proved once.
+// Counts, fewest, most and tightest windows on worked examples, and each refusal at its edge. A crate of its own, so that
+// the counting crates are proved once.
 #![tactic(auto)]
 
 #[cfg(test)]

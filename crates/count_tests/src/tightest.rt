@@ -1,19 +1,21 @@
 // One rule's tightest windows.
-use count::fault::CountFault;
-use std::test::Fail;
-use store::window::Window;
+use nvalue::season::{ROOM, Season, SeasonFault};
 use propagator::count_window::CountWindow;
-use propagator::tight::tighten;
+use propagator::tighten::tighten;
+use store::window::Window;
 
 fn window(low: u32, high: u32) -> Window {
     Window { low, high }
 }
 
-// The new count window as a pair; absent where no choice is left.
+// Writes the new windows over the old, and answers the new count window as a pair; absent where no choice is left.
 fn tightened(windows: &mut [Window], floor: u32, ceiling: u32) -> Option<(u32, u32)> {
     let count = CountWindow::new(floor, ceiling)?;
-    let tight = tighten(windows, count).ok()??;
-    Some((tight.floor(), tight.ceiling()))
+    let season = Season::new(windows).ok()?;
+    let mut room = [Window::default(); ROOM];
+    let tight = tighten(season, count, &mut room)?;
+    windows.copy_from_slice(tight.season.windows);
+    Some((tight.count.floor(), tight.count.ceiling()))
 }
 
 #[test]
@@ -61,7 +63,7 @@ fn five_lots_on_two_days(rt: HostRuntime) {
 }
 
 #[test]
-fn a_crowded_run_pushes_a_lot_out(rt: HostRuntime) {
+fn a_violated_run_pushes_a_lot_out(rt: HostRuntime) {
     let mut windows = [
         window(1, 2),
         window(1, 2),
@@ -163,16 +165,13 @@ fn a_loose_count_window_keeps_every_day(rt: HostRuntime) {
 }
 
 #[test]
-fn faulty_windows_are_refused(rt: HostRuntime) -> Result<(), Fail> {
-    let Some(count) = CountWindow::new(0, 1) else {
-        return Err(Fail::new("no count window"));
-    };
-    let mut windows = [window(0, 9999), window(0, 10_000), window(2, 1)];
-    assert!(rt; tighten(&mut windows, count) == Err(CountFault::FaultyWindow(1)));
-    assert_eq!(rt; windows, [window(0, 9999), window(0, 10_000), window(2, 1)]);
-    let mut many = [window(1, 1); 257];
-    assert!(rt; tighten(&mut many, count) == Err(CountFault::TooManyLots));
-    Ok(())
+fn faulty_windows_make_no_season(rt: HostRuntime) {
+    let windows = [window(0, 9999), window(0, 10_000), window(2, 1)];
+    let faulty = Season::new(&windows).err();
+    assert!(rt; faulty == Some(SeasonFault::FaultyWindow(1)));
+    let many = [window(1, 1); 257];
+    let many = Season::new(&many).err();
+    assert!(rt; many == Some(SeasonFault::TooManyLots));
 }
 
 #[test]

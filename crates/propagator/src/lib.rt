@@ -1,4 +1,4 @@
-// The propagator of one rule: the smallest windows that hold every choice with a count in the rule's count window.
+// The propagator of one rule: the smallest windows that hold every choice whose count it allows.
 #![tactic(auto)]
 
 mod fewest_hull;

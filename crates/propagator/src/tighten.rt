@@ -22,7 +22,7 @@ pub struct Tight<'a> {
     pub count: CountWindow,
 }
 
-// The smallest windows that hold every choice with a count in the count window, and the smallest count window of those
+// The smallest windows that hold every choice whose count the rule allows, and the smallest count window for those
 // choices; none where there is no such choice.
 pub fn tighten<'a>(
     season: Season,
