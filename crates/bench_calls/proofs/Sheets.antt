@@ -9,13 +9,14 @@ use Rattle.sheet.specs.declared.book.Book.{Book}
 use Rattle.sheet.specs.declared.fault.SheetFault.{SheetFault}
 use Rattle.sheet.specs.declared.slip.Closed.{Closed}
 use Rattle.sheet.specs.declared.slip.Draft.{Draft}
-use Rattle.sheet.specs.Books.{row, rules_of}
+use Rattle.rules.specs.Sheets.{row, sheet}
+use Rattle.sheet.specs.declared.fault.SheetFault.TheVariants.{ShortAnswer}
+use Rattle.sheet.specs.Books.{rules_of}
 use Rattle.sheet.specs.Drafts as drafts
-use Rattle.sheet.specs.Drafts.{AddsAll, Opens, Starts}
+use Rattle.sheet.specs.Drafts.{AddsAll, Opens}
 use Rattle.sheet.specs.Faults.{number_of}
 use Rattle.sheet.proofs.Books.{rules_length}
 use Rattle.sheet.proofs.Drafts.{each_rules}
-use Rattle.plan.specs.Planned as planning
 use Rattle.plan.specs.Planned.{Planned}
 use Rattle.bench_calls.specs.Planned.{PlansWords, rules_in, not_planned, planned}
 
@@ -47,9 +48,10 @@ read_more words rest others rows i h four o before =
     ∙ ap (λ qs. qs ++ rules_in others) (sym (take_more_set rows i q h))
 
 -- no book holds more than 32 rules: so what is refused among the first is refused of all
-adds_front : (front back : List Row) (slip : Draft) (was : Book) (s : Result (Unit {0}) SheetFault) (slip' : Draft) (is : Book) → 32 < length front → AddsAll front slip was s slip' is → AddsAll (front ++ back) slip was s slip' is
-adds_front front back slip was s slip' is many (drafts.AddsAll.refused before after q mid book why e each one r m w) =
-    drafts.AddsAll.refused before (after ++ back) q mid book why (ap (λ xs. xs ++ back) e ∙ append_assoc before (q ∷ after) back) each one r m w
+adds_front : (front back : List Row) (slip : Draft) (was : Book) (s : Result (Unit {0}) SheetFault) (slip' : Draft) (is : Book)
+    → 32 < length front → AddsAll front slip was s slip' is → AddsAll (front ++ back) slip was s slip' is
+adds_front front back slip was s slip' is many (drafts.AddsAll.refused why f r m w) =
+    drafts.AddsAll.refused why (record { before = f.before; q = f.q; after = f.after ++ back; split = ap (λ xs. xs ++ back) f.split ∙ append_assoc f.before (f.q ∷ f.after) back; mid = f.mid; book = f.book; added = f.added; refused = f.refused }) r m w
 adds_front front back slip was s slip' is many (drafts.AddsAll.all_added each r) =
     absurd (omega (arith, ap length (each_rules front slip was slip' is each), length-append (rules_of was) front, rules_length is, is.few))
 
@@ -69,33 +71,19 @@ opens_all ws words rest rows was r is count split left o =
       | inr h ↦ subst (λ qs. Opens ws qs was r is) (sym split) (opens_front ws rows (rules_in rest) was r is (omega arith) o)
     ]
 
--- a book that was started has no rule, and a sheet that was opened has just these
-started_empty : (ws : List Window) (fresh : Book) (draft : Draft) (begun : Book) → Starts ws fresh (Ok draft) begun → rules_of begun ≡ []
-started_empty ws fresh draft begun (drafts.Starts.too_many_lots _ r _) = cc
-started_empty ws fresh draft begun (drafts.Starts.faulty_window _ _ _ r _) = cc
-started_empty ws fresh draft begun (drafts.Starts.started _ _ _ _ none) = none
-
+-- a sheet that was opened has just these rules
 opened_rules : (ws : List Window) (rows : List Row) (fresh : Book) (slip : Closed) (book : Book) → Opens ws rows fresh (Ok slip) book → rules_of book ≡ rows
 opened_rules ws rows fresh slip book (drafts.Opens.not_started _ _ o) = cc
 opened_rules ws rows fresh slip book (drafts.Opens.not_added _ _ _ _ _ _ _ o _) = cc
-opened_rules ws rows fresh slip book (drafts.Opens.opened _ _ _ _ (drafts.AddsAll.refused _ _ _ _ _ _ _ _ _ o _ _) _) = cc
+opened_rules ws rows fresh slip book (drafts.Opens.opened _ _ _ _ (drafts.AddsAll.refused _ _ o _ _) _) = cc
 opened_rules ws rows fresh slip book (drafts.Opens.opened draft draft' begun s (drafts.AddsAll.all_added each _) _) =
-    each_rules rows draft begun draft' book each ∙ ap (λ qs. qs ++ rows) (started_empty ws fresh draft begun s)
-
--- a refusal writes nothing
-unwritten : (work : ℕ) (ws : List Window) (book : Book) (slip : Closed) (was is : List ℕ) (e : SheetFault) → Planned work slip ws book was (Err e) is → is ≡ was
-unwritten work ws book slip was is e (planning.Planned.refused _ _ _ w) = w
-unwritten work ws book slip was is e (planning.Planned.short_answer _ _ _ w) = w
-unwritten work ws book slip was is e (planning.Planned.no_plan _ _ _ _ w) = w
-unwritten work ws book slip was is e (planning.Planned.planned _ _ _ _ r _) = cc
+    each_rules rows draft begun draft' book each ∙ ap (λ qs. qs ++ rows) s.1.2
 
 module _ (work : ℕ) (ws : List Window) (rows : List Row) (fresh book : Book) (slip : Closed) (was is : List ℕ) (o : Opens ws rows fresh (Ok slip) book) where
-  pub plan_refused : (e : SheetFault) → Planned work slip ws book was (Err e) is → PlansWords work ws rows was (number_of e) is
-  plan_refused e p = not_planned e fresh book slip o p refl (unwritten work ws book slip was is e p)
+  pub plan_refused : (e : SheetFault) → Planned work slip.lots slip.rules ws book was (Err e) is → PlansWords work ws rows was (number_of e) is
+  plan_refused e p = not_planned e fresh book slip o p refl p.1
 
-  pub plan_made : (n : ℕ) → Planned work slip ws book was (Ok n) is → PlansWords work ws rows was 0 is
-  plan_made n (planning.Planned.refused _ _ r _) = cc
-  plan_made n (planning.Planned.short_answer _ _ r _) = cc
-  plan_made n (planning.Planned.no_plan _ _ _ r _) = cc
-  plan_made n (planning.Planned.planned ds _ room first _ words) =
-      planned fresh book slip ds o (subst (λ qs. Earliest ws qs ds) (opened_rules ws rows fresh slip book o) first) room refl words
+  pub plan_made : (n : ℕ) → Planned work slip.lots slip.rules ws book was (Ok n) is → PlansWords work ws rows was 0 is
+  plan_made n (passes, (ds, first, _, words)) =
+      let room : length ws ≤ length was = elim (cases_lt (length was) (length ws)) [ inl h ↦ absurd (passes.1.1.1.1.0 ShortAnswer (h, refl)) | inr h ↦ h ] in
+      planned fresh book slip ds o (subst (λ qs. Earliest (sheet ws qs) ds) (opened_rules ws rows fresh slip book o) first) room refl words

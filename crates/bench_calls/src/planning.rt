@@ -1,9 +1,12 @@
-// C calls to settle and plan. Windows are words, low and high of each lot in turn; a rule is four words: first lot, length, floor, ceiling.
-ghost use Rattle.std.specs.Prelude.{◌+◌, ◌*◌, ◌≡◌, ◌≤◌, ℕ, List, ◌++◌, length};
+// The C call that plans. Windows are words, of each lot its low, then its high; a rule is four words: first lot, length,
+// floor, ceiling.
+ghost use Rattle.std.specs.Prelude.{◌+◌, ◌*◌, ◌≡◌, ◌⊎◌, ◌≤◌, ℕ, List, ◌++◌, length};
+ghost use Rattle.guard.specs.Cleared.{Cleared};
 ghost use Rattle.store.specs.Pairs.{paired};
 ghost use Rattle.bench_calls.specs.Planned.{PlansWords, rules_in};
 
 use base_stores::words::WordStore;
+use nvalue::stretch::Stretch;
 use plan::planning::plan;
 use rules::row::Row;
 use sheet::book::Book;
@@ -12,7 +15,8 @@ use sheet::start::closed;
 // One more than a book holds: so of more rules than that, one among these is refused.
 const ROWS: usize = 33;
 
-// Starts a sheet, adds the rules, closes it and plans it: 0, and the answer words begin with the earliest plan; or the number of the first refusal. A rest of fewer than four words is no rule.
+// Starts a sheet, adds the rules, closes it and plans it: 0, and the answer words begin with the earliest plan; or the
+// number of the first refusal. A rest of fewer than four words is no rule.
 #[unsafe(no_mangle)]
 pub extern "C" fn bench_plan(
     words: &mut [u32],
@@ -20,7 +24,10 @@ pub extern "C" fn bench_plan(
     answer: &mut [u32],
     work: &mut [u32],
 ) -> u32
-    ensures { PlansWords (length work.old) (paired words.old) (rules_in rules.now) answer.old result answer.new }
+    ensures planned { PlansWords (length work.old) (paired words.old) (rules_in rules.now)
+        answer.old result answer.new }
+    ensures windows { words.new ≡ words.old }
+    ensures cleared { (work.new ≡ work.old) ⊎ Cleared work.old work.new }
 {
     let house = WordStore::new(words);
     let count = (rules.len() / 4).min(ROWS);
@@ -43,16 +50,20 @@ pub extern "C" fn bench_plan(
 // Fills the rows with the rules that the first words hold.
 fn read_rules(words: &[u32], rows: &mut [Row])
     requires { 4 * length rows.old ≤ length words.now }
-    ensures { (rest : List ℕ) × (rules_in words.now ≡ rows.new ++ rules_in rest) × (length rest + 4 * length rows.new ≡ length words.now) }
+    ensures { (rest : List ℕ) × (rules_in words.now ≡ rows.new ++ rules_in rest)
+        × (length rest + 4 * length rows.new ≡ length words.now) }
 {
     let mut rest = words;
     for row in rows.iter_mut() {
         let [first, length, floor, ceiling, others @ ..] = rest else {
             return;
         };
-        *row = Row {
+        let stretch = Stretch {
             first: *first as usize,
             length: *length as usize,
+        };
+        *row = Row {
+            stretch,
             floor: *floor,
             ceiling: *ceiling,
         };
