@@ -1,5 +1,4 @@
-// Rules on how many different days a stretch of lots may take: what a plan is, what firm windows are, and how a
-// sheet falls into parts.
+// Sheets as plain lists: what a plan is, what a firm sheet is, and how a sheet falls into parts.
 #![tactic(auto)]
 
 pub mod laws;
