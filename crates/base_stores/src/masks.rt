@@ -45,7 +45,8 @@ impl WindowStore for MaskStore<'_> {
 
     ghost frame = { λ s. s.masks.ghost_name };
 
-    ghost here = { λ s. each_same window_of_mask kept (λ mask. where_window_same (window_of_mask mask) mask _) s.masks.now };
+    ghost here = { λ s. each_same window_of_mask kept
+        (λ mask. where_window_same (window_of_mask mask) mask _) s.masks.now };
 
     fn lots(&self) -> usize {
         self.masks.len()

@@ -1,6 +1,6 @@
 // The dispatch layer: any store, read in days before the day of dispatch.
 ghost use Rattle.std.specs.Prelude.{◌≡◌, ℕ, ◌-◌, List, map};
-ghost use Rattle.calendar.specs.Calendars.{until, before_dispatch, dispatch_days, dispatch_window};
+ghost use Rattle.calendar.specs.Calendars.{until, before_dispatch, dispatch_days, dispatch_window, Shown};
 ghost use Rattle.std.proofs.Common.{ap, ap₂, ◌∙◌};
 ghost use Rattle.store.proofs.Each.{each_same, where_same_same};
 ghost use Rattle.store.specs.Each.{each};
@@ -40,8 +40,7 @@ impl<S> Dispatch<S> {
 impl<S: WindowStore> Dispatch<S> {
     // A lot's window as the layer shows it.
     fn window(&self, place: usize) -> Option<Window>
-        ensures { result ≡ found
-            (map (before_dispatch self.now.last) (S.WindowStore.windows self.now.below)) place }
+        ensures { result ≡ found (⟦<Dispatch<S> as WindowStore>⟧.windows self.now) place }
     {
         let low = shown(self.last, self.below.high(place))?;
         let high = shown(self.last, self.below.low(place))?;
@@ -87,12 +86,10 @@ impl<S: WindowStore> WindowStore for Dispatch<S> {
 }
 
 // A day below, if there is one, as days before dispatch. Saturating on purpose: a day after dispatch shows as 0.
-// The clauses speak of every list that the day may be an end in: the layer shows it at the other end.
+// It is the other end that it is shown at.
 fn shown(last: u32, day: Option<u32>) -> Option<u32>
-    ensures lows { (ws : List Window) (p : ℕ) → day ≡ high_at ws p → result ≡ low_at
-        (map (before_dispatch last) ws) p }
-    ensures highs { (ws : List Window) (p : ℕ) → day ≡ low_at ws p → result ≡ high_at
-        (map (before_dispatch last) ws) p }
+    ensures lows { Shown (before_dispatch last) high_at low_at day result }
+    ensures highs { Shown (before_dispatch last) low_at high_at day result }
 {
     Some(last.saturating_sub(day?))
 }

@@ -20,7 +20,7 @@ abbrev pub Refused : {E : Type 0} → List (E → Type 0) → E → Type 0
 Refused [] e = ⊥
 Refused {E} (check ∷ checks) e = First (check e) ((other : E) → check other → ⊥) (Refused checks e)
 
--- A call answers `r`: where no check refuses a value of which `Given` holds, else the refusal of the first that
--- does, and `Stays` holds.
+-- A call answers `r`: where no check refuses, a value of which `Given` holds;
+-- else the refusal of the first that does, and then `Stays` holds.
 abbrev pub Checked : {E V : Type 0} → List (E → Type 0) → Result V E → (V → Type 0) → Type 0 → Type 0
 Checked checks r Given Stays = MatchResult r (λ value. Passes checks × Given value) (λ e. Refused checks e × Stays)

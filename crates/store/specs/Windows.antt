@@ -44,9 +44,10 @@ abbrev pub Misses : HalfLine → Window → Type 0
 Misses (From day) w = w.high < day
 Misses (UpTo day) w = day < w.low
 
--- Asked to leave a lot no days but those of a half-line, a store answers `r` and goes from the windows `was` to the
--- windows `is`.
-pub data Trims (was : List Window) (place : ℕ) (days : HalfLine) (r : Result (Unit {0}) StoreFault) (is : List Window) : Type 0 where
+-- Asked to leave a lot no days but those of a half-line, a store answers `r`,
+-- and its windows, which were `was`, are `is`.
+pub data Trims (was : List Window) (place : ℕ) (days : HalfLine)
+    (r : Result (Unit {0}) StoreFault) (is : List Window) : Type 0 where
   no_such_lot : length was ≤ place → r ≡ Err NoSuchLot → is ≡ was → Trims was place days r is
   stays : place < length was → Within days (window_at was place) → r ≡ Ok tt → is ≡ was → Trims was place days r is
   would_empty : place < length was → (Within days (window_at was place) → ⊥) → Misses days (window_at was place)
@@ -62,7 +63,7 @@ Narrower v w = (w.low ≤ v.low) × (v.high ≤ w.high)
 abbrev pub Narrowed : List Window → List Window → Type 0
 Narrowed vs ws = AllZip Narrower vs ws
 
--- what the memory will be at later windows is the same by the one account as by the other, for all windows inside
--- these
+-- what the memory will be at later windows is the same by the one account as by the other,
+-- for all windows inside these
 abbrev pub Onward : (List Window → List ℕ) → (List Window → List ℕ) → List Window → Type 0
 Onward was now is = (ws : List Window) → Narrowed ws is → now ws ≡ was ws

@@ -1,6 +1,6 @@
 // The period layer: any store, read in periods of a fixed number of days, as weeks.
 ghost use Rattle.std.specs.Prelude.{◌≡◌, ℕ, ◌*◌, ◌^◌, ◌<◌, List, map, IfSome};
-ghost use Rattle.calendar.specs.Calendars.{period_of, in_periods, period_days, period_window};
+ghost use Rattle.calendar.specs.Calendars.{period_of, in_periods, period_days, period_window, Shown};
 ghost use Rattle.std.proofs.Common.{ap, ap₂, ◌∙◌};
 ghost use Rattle.store.proofs.Each.{each_same, where_same_same};
 ghost use Rattle.store.specs.Each.{each};
@@ -40,8 +40,7 @@ impl<S> Period<S> {
 impl<S: WindowStore> Period<S> {
     // A lot's window as the layer shows it: the first day of its last period is a word.
     fn window(&self, place: usize) -> Option<Window>
-        ensures value { result ≡ found
-            (map (in_periods self.now.length.days) (S.WindowStore.windows self.now.below)) place }
+        ensures value { result ≡ found (⟦<Period<S> as WindowStore>⟧.windows self.now) place }
         ensures word { IfSome result (λ w. self.now.length.days * w.high < 2 ^ 32) }
     {
         let low = shown(self.length, self.below.low(place))?;
@@ -87,12 +86,10 @@ impl<S: WindowStore> WindowStore for Period<S> {
     }
 }
 
-// The period of a day below, if there is one: that end of the window shown, whatever list the day is an end in.
+// The period of a day below, if there is one.
 fn shown(length: PeriodLength, day: Option<u32>) -> Option<u32>
-    ensures lows { (ws : List Window) (p : ℕ) → day ≡ low_at ws p → result ≡ low_at
-        (map (in_periods length.days) ws) p }
-    ensures highs { (ws : List Window) (p : ℕ) → day ≡ high_at ws p → result ≡ high_at
-        (map (in_periods length.days) ws) p }
+    ensures lows { Shown (in_periods length.days) low_at low_at day result }
+    ensures highs { Shown (in_periods length.days) high_at high_at day result }
     ensures word { IfSome result (λ p. length.days * p < 2 ^ 32) }
 {
     Some(day? / length.days)
