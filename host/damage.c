@@ -1,8 +1,9 @@
 /*
  * Writes sheet files, whole and damaged ones: damage COUNT FOLDER SHEET..
  *
- * Of the files that it writes, 0.sheet to COUNT - 1.sheet, every third is made up, and the others are one of the named sheets with a byte changed, with some bytes dropped or added, or with its trailer
- * changed. A fixed seed: the files are the same each time.
+ * Of the files that it writes, 0.sheet to COUNT - 1.sheet, every third is made up, and the others are one of the
+ * named sheets with a byte changed, with some bytes dropped or added, or with its trailer changed. A fixed seed:
+ * the files are the same each time.
  */
 #include <stdint.h>
 #include <stdio.h>

@@ -1,8 +1,10 @@
 /*
  * Plans sheet files from C: plan_sheet [-o BYTES] FILE..
  *
- * For each file it prints a line `lot N day D` for each lot, or the line `refused R`. With more than one file a line with the file's name comes first. With -o the planner gets that many bytes
- * of output in place of 512. It ends with status 1 where a file was refused, and with 2 where a file cannot be read or where the planner wrote a byte that it has to leave.
+ * For each file it prints a line `lot N day D` for each lot, or the line `refused R`. With more than one file a
+ * line with the file's name comes first. With -o the planner gets that many bytes of output in place of 512. It
+ * ends with status 1 where a file was refused, and with 2 where a file cannot be read or where the planner wrote a
+ * byte that it has to leave.
  */
 #include "rigbuwate.h"
 
