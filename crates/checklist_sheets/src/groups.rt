@@ -4,7 +4,8 @@ use base_stores::words::WordStore;
 use calendar::dispatch::Dispatch;
 use calendar::period::{Period, PeriodLength};
 use guard::guard::WORDS;
-use plan::calls::Call;
+use nvalue::stretch::Stretch;
+use plan::calls::{Call, Outcome};
 use plan::run::make_calls;
 use rules::row::Row;
 use sheet::book::Book;
@@ -17,7 +18,7 @@ const EARLY: usize = 4;
 
 const LOTS: usize = 9;
 
-// low and high of each lot in turn
+// the first and the last day of each lot's window
 const SEASON: [u32; 2 * LOTS] = [
     1, 3, 5, 7, 9, 11, 13, 15, 20, 25, 22, 28, 24, 29, 30, 31, 27, 33,
 ];
@@ -71,19 +72,20 @@ fn work_on<S: WindowStore>(rt: &HostRuntime, house: &mut S, limit: u32) -> io::R
     };
     let mut answer = [0; LOTS];
     let mut work = [0; WORDS];
+    let mut outcomes = [Outcome::Settled(Ok(())); CALLS.len()];
     let made = make_calls(
-        rt.alloc(),
         &slip,
         house,
         &mut book,
         &CALLS,
+        &mut outcomes,
         &mut answer,
         &mut work,
     );
     slip.put_away();
-    let Ok(outcomes) = made else {
-        return println!(rt; "  no memory for the outcomes");
-    };
+    if let Err(fault) = made {
+        return println!(rt; "  {fault}");
+    }
     println!(rt;
         "Lot 4 not before 21; lot 0 not after 0; settle; the late lots on at most 2; plan"
     )?;
@@ -100,14 +102,18 @@ fn work_on<S: WindowStore>(rt: &HostRuntime, house: &mut S, limit: u32) -> io::R
 fn rules(limit: u32) -> [Row; 2] {
     [
         Row {
-            first: 0,
-            length: EARLY,
+            stretch: Stretch {
+                first: 0,
+                length: EARLY,
+            },
             floor: 0,
             ceiling: 256,
         },
         Row {
-            first: EARLY,
-            length: LOTS - EARLY,
+            stretch: Stretch {
+                first: EARLY,
+                length: LOTS - EARLY,
+            },
             floor: 0,
             ceiling: limit,
         },

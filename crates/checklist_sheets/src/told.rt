@@ -1,4 +1,5 @@
 // Windows, rules, outcomes and refusals in plain words.
+use nvalue::stretch::Stretch;
 use plan::calls::Outcome;
 use rules::row::Row;
 use sheet::book::Book;
@@ -20,8 +21,7 @@ pub fn show_windows<S: WindowStore>(rt: &HostRuntime, house: &S) -> io::Result<(
 pub fn show_rules(rt: &HostRuntime, book: &Book) -> io::Result<()> {
     for (number, row) in book.rows().iter().enumerate() {
         let Row {
-            first,
-            length,
+            stretch: Stretch { first, length },
             floor,
             ceiling,
         } = *row;

@@ -65,7 +65,7 @@ pub fn fewest_days(alloc: Global, sheet: &Small, rule: &Row) -> Result<Answer, A
     let house = WordStore::new(&mut words);
     let mut answer = vec![in alloc; 0; sheet.windows.len().saturating_mul(2)]?;
     let mut work = [0; WORDS];
-    match fewest(&house, rule.stretch(), &mut answer, &mut work) {
+    match fewest(&house, rule.stretch, &mut answer, &mut work) {
         Ok(count) => Ok(Answer::Number(count as u64)),
         Err(fault) => Ok(Answer::Refused(fault.number())),
     }
@@ -77,7 +77,7 @@ pub fn most_days(alloc: Global, sheet: &Small, rule: &Row) -> Result<Answer, All
     let house = WordStore::new(&mut words);
     let mut answer = vec![in alloc; 0; sheet.windows.len().saturating_mul(2)]?;
     let mut work = [0; WORDS];
-    match most(&house, rule.stretch(), &mut answer, &mut work) {
+    match most(&house, rule.stretch, &mut answer, &mut work) {
         Ok(found) => Ok(Answer::Number(found.count as u64)),
         Err(fault) => Ok(Answer::Refused(fault.number())),
     }
@@ -88,7 +88,7 @@ pub fn shown<S: WindowStore>(alloc: Global, house: &S) -> Result<Answer, AllocEr
     Ok(Answer::Windows(read_back(alloc, house, &Book::empty(0))?))
 }
 
-// A house has words, low and high of each lot in turn.
+// A house's words: each window's first day and last day, lot after lot.
 fn words_of(alloc: Global, windows: &[Window]) -> Result<Vec<u32>, AllocError> {
     windows
         .iter()

@@ -58,5 +58,6 @@ fn share_lots(rules: &[Row]) -> bool {
 }
 
 fn overlap(a: &Row, b: &Row) -> bool {
+    let (a, b) = (a.stretch, b.stretch);
     a.first < b.first.saturating_add(b.length) && b.first < a.first.saturating_add(a.length)
 }

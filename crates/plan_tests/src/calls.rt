@@ -1,5 +1,6 @@
 // Lists of calls, refused ones among them.
-use crate::house::{closed, counts, rule};
+use crate::house::{closed, counts, rule, settled};
+use base_stores::masks::MaskStore;
 use base_stores::words::WordStore;
 use plan::calls::{Call, Outcome};
 use plan::run::make_calls;
@@ -25,17 +26,18 @@ fn refused_calls_change_nothing(rt: HostRuntime) -> Result<(), Fail> {
     let slip = closed(&WordStore::new(&mut words), &mut book, &[rule(0, 2, 0, 3)])?;
     let mut answer = [0; 2];
     let mut work = [7; 4096];
+    let mut outcomes = [Outcome::Planned(Ok(9)); 9];
     let made = make_calls(
-        rt.alloc(),
         &slip,
         &mut WordStore::new(&mut words),
         &mut book,
         &calls,
+        &mut outcomes,
         &mut answer,
         &mut work,
     );
     slip.put_away();
-    let outcomes = made?;
+    made?;
     let past = StoreRefusal {
         lot: 0,
         fault: StoreFault::WouldEmpty,
@@ -49,8 +51,9 @@ fn refused_calls_change_nothing(rt: HostRuntime) -> Result<(), Fail> {
         Outcome::Asked(Ok(())),
         Outcome::Settled(Ok(())),
         Outcome::Planned(Ok(1)),
+        Outcome::Planned(Ok(9)),
     ];
-    assert_eq!(rt; outcomes.as_slice(), wanted.as_slice());
+    assert_eq!(rt; outcomes, wanted);
     assert_eq!(rt; words, [5, 5, 5, 5]);
     assert_eq!(rt; counts(&book, 0), Some((1, 1)));
     assert_eq!(rt; answer, [5, 5]);
@@ -64,18 +67,55 @@ fn no_calls(rt: HostRuntime) -> Result<(), Fail> {
     let slip = closed(&WordStore::new(&mut words), &mut book, &[])?;
     let mut work = [7; 3];
     let made = make_calls(
-        rt.alloc(),
         &slip,
         &mut WordStore::new(&mut words),
         &mut book,
         &[],
         &mut [],
+        &mut [],
         &mut work,
     );
     slip.put_away();
-    let outcomes = made?;
-    assert_eq!(rt; outcomes.len(), 0);
+    made?;
     assert_eq!(rt; words, [3, 5]);
     assert_eq!(rt; work, [7, 7, 7]);
+    Ok(())
+}
+
+#[test]
+fn too_little_room_for_the_outcomes(rt: HostRuntime) -> Result<(), Fail> {
+    let mut words = [3, 5, 4, 8];
+    let mut book = Book::empty(0);
+    let slip = closed(&WordStore::new(&mut words), &mut book, &[rule(0, 2, 0, 3)])?;
+    let mut outcomes = [Outcome::Planned(Ok(9))];
+    let mut answer = [7; 2];
+    let mut work = [7; 4096];
+    let made = make_calls(
+        &slip,
+        &mut WordStore::new(&mut words),
+        &mut book,
+        &[Call::NotBefore(0, 5), Call::Plan],
+        &mut outcomes,
+        &mut answer,
+        &mut work,
+    );
+    slip.put_away();
+    assert_eq!(rt; made, Err(SheetFault::ShortAnswer));
+    assert_eq!(rt; words, [3, 5, 4, 8]);
+    assert_eq!(rt; counts(&book, 0), Some((0, 3)));
+    assert_eq!(rt; outcomes, [Outcome::Planned(Ok(9))]);
+    assert_eq!(rt; answer, [7, 7]);
+    assert_eq!(rt; work[0], 7);
+    Ok(())
+}
+
+// Settle moves one lot's window; the masks of the others keep their gaps.
+#[test]
+fn masks_with_gaps_stay(rt: HostRuntime) -> Result<(), Fail> {
+    let mut masks = [0b10_1001, 0b1_0000, 0b1001_0000];
+    let mut book = Book::empty(0);
+    let rules = [rule(0, 2, 0, 1), rule(2, 1, 0, 1)];
+    settled(&mut MaskStore::new(&mut masks), &mut book, &rules)?;
+    assert_eq!(rt; masks, [0b1_0000, 0b1_0000, 0b1001_0000]);
     Ok(())
 }

@@ -1,4 +1,5 @@
 // What the tests share: settling or planning a sheet in one go.
+use nvalue::stretch::Stretch;
 use plan::planning::plan;
 use plan::settle::settle;
 use rules::row::Row;
@@ -9,8 +10,7 @@ use store::store::WindowStore;
 
 pub fn rule(first: usize, length: usize, floor: u32, ceiling: u32) -> Row {
     Row {
-        first,
-        length,
+        stretch: Stretch { first, length },
         floor,
         ceiling,
     }

@@ -1,5 +1,6 @@
 // Drawing small sheets, the same ones in every run.
 use answers::small::Small;
+use nvalue::stretch::Stretch;
 use rules::row::Row;
 use std::alloc::{AllocError, Global};
 use std::array;
@@ -55,8 +56,7 @@ impl Draw {
         let floor = self.below(4).saturating_sub(1);
         let ceiling = floor.max(self.below(3)).saturating_add(1);
         Row {
-            first,
-            length,
+            stretch: Stretch { first, length },
             floor,
             ceiling,
         }

@@ -15,8 +15,8 @@ pub fn count_days(days: &[u32]) -> usize {
 
 // The days of the lots that a rule is over.
 pub fn days_under<'a>(rule: &Row, days: &'a [u32]) -> &'a [u32] {
-    let rest = days.get(rule.first..).unwrap_or(&[]);
-    rest.get(..rule.length).unwrap_or(rest)
+    let rest = days.get(rule.stretch.first..).unwrap_or(&[]);
+    rest.get(..rule.stretch.length).unwrap_or(rest)
 }
 
 pub fn keeps(rule: &Row, days: &[u32]) -> bool {

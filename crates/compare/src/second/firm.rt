@@ -4,6 +4,7 @@ use crate::second::choices::{Days, all_choices};
 use crate::second::counts::{count_days, days_under, keeps};
 use answers::answer::Answer;
 use answers::small::Small;
+use nvalue::stretch::Stretch;
 use rules::row::Row;
 use std::alloc::{AllocError, Global};
 use store::window::Window;
@@ -77,8 +78,12 @@ fn is_unused(sheet: &Small, lot: usize, day: u32, choices: &[Days]) -> bool {
     sheet
         .rules
         .iter()
-        .filter(|rule| rule.first <= lot && lot < rule.first.saturating_add(rule.length))
+        .filter(|rule| is_over(rule.stretch, lot))
         .any(|rule| !is_used(rule, lot, day, choices))
+}
+
+fn is_over(stretch: Stretch, lot: usize) -> bool {
+    stretch.first <= lot && lot < stretch.first.saturating_add(stretch.length)
 }
 
 // Some choice that keeps the rule gives the lot this day.
