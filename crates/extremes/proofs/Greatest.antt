@@ -81,8 +81,8 @@ module _ (ws : List Window) (order : List (ℕ × ℕ)) (shuffled : IsPermutatio
       let s = full_load r p.takers (p.packed.full k l).0 in
       omega (arith, total (λ w. cond (inside r w) 1 0), load_sum r ws, load_sum r p.overs, load_sum r (windows_of p.takers))
 
-  runs_crowded : AllByRecursion (Violated ws) (take most.runs runs)
-  runs_crowded = runs_all (Violated ws) (λ k l. omega (arith, loaded k l, (p.packed.full k l).1))
+  runs_violated : AllByRecursion (Violated ws) (take most.runs runs)
+  runs_violated = runs_all (Violated ws) (λ k l. omega (arith, loaded k l, (p.packed.full k l).1))
 
   runs_disjoint : Disjoint (take most.runs runs)
   runs_disjoint =
@@ -131,12 +131,12 @@ module _ (ws : List Window) (order : List (ℕ × ℕ)) (shuffled : IsPermutatio
   pub packing_shows : Greatest ws days (take most.runs runs) most.count
   packing_shows =
       let rs = take most.runs runs in
-      let bound : (ds : List ℕ) → Choice ws ds → nvalue ds + surplus ws rs ≤ length ws = λ ds c. violated_bound ws rs ds c runs_disjoint runs_crowded in
+      let bound : (ds : List ℕ) → Choice ws ds → nvalue ds + surplus ws rs ≤ length ws = λ ds c. violated_bound ws rs ds c runs_disjoint runs_violated in
       record {
         choice = days_choice;
         count = days_count;
         disjoint = runs_disjoint;
-        violated = runs_crowded;
+        violated = runs_violated;
         adds_up = omega (arith, bound days days_choice, days_count, overs_surplus, total_length, p.count);
         greatest = λ ds c. omega (arith, bound ds c, overs_surplus, total_length, p.count);
       }

@@ -1,4 +1,4 @@
--- Bounds on the number of different values: by index, by windows that share no day, and by crowded runs.
+-- Bounds on the number of different values: by index, by windows that share no day, and by violated runs.
 use Rattle.std.proofs.Common.{◌≡◌, ℕ, zero, suc, ◌+◌, ◌-◌, ◌<◌, ◌≤◌, cond, ◌&&◌, leb, List, [], ◌∷◌, ◌++◌, map, length, get_or, sym, refl, ◌∙◌, subst, zero-add, arith}
 use Rattle.std.specs.List.{range_with_len, ContainsAt as Has, flat_map, AllByRecursion}
 use Rattle.std.proofs.lemmas.List.FromFn.{get_or-range_with_len, get_or-map-range_with_len, length-range_with_len, length-map-range_with_len}
@@ -104,12 +104,12 @@ loads_bound runs (w ∷ ws) [] c u = absurd c
 loads_bound runs (w ∷ ws) (d ∷ ds) (b, c) u =
     grind (arith, nat_tests, loads_bound runs ws ds c u, loads_more runs w ws, covers_le_has runs w d u b, has_append d ds (days runs), has_le_one)
 
--- the surpluses of crowded runs are their loads less their sizes
+-- the surpluses of violated runs are their loads less their sizes
 surplus_loads : (ws runs : List Window) → AllByRecursion (Violated ws) runs → surplus ws runs + room runs ≡ loads runs ws
 surplus_loads ws [] c = refl
 surplus_loads ws (run ∷ runs) (c, cs) = omega (arith, surplus_loads ws runs cs)
 
--- crowded runs that share no day: at most as many different days as lots, less the surpluses
+-- violated runs that share no day: at most as many different days as lots, less the surpluses
 pub violated_bound : (ws runs : List Window) (ds : List ℕ) → Choice ws ds → Disjoint runs → AllByRecursion (Violated ws) runs → nvalue ds + surplus ws runs ≤ length ws
 violated_bound ws runs ds c u o =
     omega (arith, nvalue_mono ds (ds ++ days runs) (within_append ds (days runs)), loads_bound runs ws ds c u, surplus_loads ws runs o)

@@ -36,7 +36,7 @@ abbrev pub load : Window → List Window → ℕ
 load run [] = 0
 load run (w ∷ ws) = cond (nat_le run.low w.low && nat_le w.high run.high) 1 0 + load run ws
 
--- a run is crowded where more windows lie in it than it has days; by so many more is its surplus
+-- a run is violated, as a Hall interval is, where more windows lie in it than it has days; its surplus is how many more
 abbrev pub Violated : List Window → Window → Type 0
 Violated ws run = size run < load run ws
 

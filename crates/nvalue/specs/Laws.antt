@@ -28,7 +28,7 @@ DisjointWindowsBoundBelow =
     (ws : List Window) (ds lots : List ℕ) → Choice ws ds → AllByRecursion (λ lot. lot < length ws) lots
     → Disjoint (map (window_at ws) lots) → length lots ≤ nvalue ds
 
--- crowded runs that share no day: every choice has at most as many different days as lots, less the surpluses
+-- violated runs that share no day: every choice has at most as many different days as lots, less the surpluses
 abbrev pub ViolatedRunsBoundAbove : Type 0
 ViolatedRunsBoundAbove =
     (ws runs : List Window) (ds : List ℕ) → Choice ws ds → Disjoint runs → AllByRecursion (Violated ws) runs

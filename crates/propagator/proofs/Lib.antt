@@ -1,11 +1,11 @@
-pub mod Crowd
 pub mod Facing
+pub mod HallSet
 pub mod Hulls
-pub mod Moved
-pub mod Rungs
 pub mod Matched
+pub mod Moved
+pub mod Reaching
+pub mod Rungs
 pub mod ShutIn
 pub mod Sparing
 pub mod Spreading
 pub mod Tightened
-pub mod Reaching

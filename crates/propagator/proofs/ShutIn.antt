@@ -12,7 +12,7 @@ use Rattle.propagator.specs.Supports.{Best, NoSupport}
 use Rattle.extremes.specs.Flags.{Set, Unset}
 use Rattle.propagator.specs.Matching.{Spared}
 use Rattle.propagator.specs.Reach.{CanReach, Passed, Seen}
-use Rattle.propagator.proofs.Crowd.{crowded, has_kept, kept}
+use Rattle.propagator.proofs.HallSet.{hall_set, has_kept, kept}
 
 -- the lots that are spare, or have a day of the block
 abbrev pub flags : List Bool → List ℕ → Window → List Bool
@@ -83,7 +83,7 @@ module _ (ws : List Window) (days : List ℕ) (best : Best ws days) (spare : Lis
           | inr o ↦ absurd (p.own (seen (get_or days lot 0) o))
         ]
       ] in
-      let fewer = crowded fs days es (length_flags spare days (window reach.low reach.high) (omega (arith, many))) (omega (arith, many))
+      let fewer = hall_set fs days es (length_flags spare days (window reach.low reach.high) (omega (arith, many))) (omega (arith, many))
       (λ k l a c ne e. flagged k (omega (arith, many)) (inl (spared.company k l (omega (arith, many)) (omega (arith, many)) ne e)))
       (λ k a f.
       let inside = choice_get_or ws es b.choice k (omega arith) in

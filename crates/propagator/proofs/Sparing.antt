@@ -1,4 +1,4 @@
--- The lots that best choices can spare: how looseness goes from lot to lot, and what it shows at the end.
+-- The lots that best choices can spare: how one makes others spare, and what it shows at the end.
 use Rattle.std.proofs.Common.{◌≡◌, ℕ, zero, suc, ◌+◌, ◌<◌, ◌≤◌, ◌≢◌, Bool, true, false, ◌⊎◌, List, [], ◌∷◌, length, get_or, set, Option, None, Some, sym, refl, ap, ◌∙◌, subst, inl, inr, arith}
 use Rattle.std.proofs.lemmas.List.{get_or-set_other, get_or-set_same}
 use Rattle.std.proofs.lemmas.Bool.{both_ways, cases_eq}
@@ -160,7 +160,7 @@ module _ (ws : List Window) (days : List ℕ) (best : Best ws days) (mates : Lis
         waits = λ k w. elim (s.news k w) [ inl o ↦ s.kept k (p.waits k (clear_was pending lot k o)) | inr n ↦ n.1 ];
       }
 
-  -- where none is pending looseness has spread to the end
+  -- where none is pending all spare lots are found
   pub sparing_ends : ((day k : ℕ) → Mate mates day k → (k < length ws) × (get_or days k 0 ≡ day)) → (spare pending : List Bool) → Sparing ws days mates spare pending
       → ((k : ℕ) → Set pending k → ⊥) → Spared ws days spare
   sparing_ends mated spare pending p none = record {

@@ -1,4 +1,4 @@
--- Looseness spreads over the days of a window, one after the other.
+-- From a spare lot over the days of its window, one after the other.
 use Rattle.std.proofs.Common.{◌≡◌, ℕ, zero, suc, ◌+◌, ◌<◌, ◌≤◌, Bool, true, false, cond, ◌⊎◌, List, [], ◌∷◌, length, get_or, set, take, drop, Option, None, sym, refl, ap, ◌∙◌, subst, inl, inr, arith}
 use Rattle.std.proofs.lemmas.List.{get_or-drop, get_or-set_same, get_or-take}
 use Rattle.std.proofs.lemmas.Bool.{both_ways, cases_eq}

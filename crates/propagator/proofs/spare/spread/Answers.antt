@@ -1,4 +1,4 @@
--- Each turn passes looseness on from one lot; at the end no lot is pending.
+-- Each turn looks at one spare lot; at the end none is pending.
 use Rattle.std.proofs.Common.{◌≡◌, ℕ, ◌<◌, ◌≤◌, false, length, get_or, set, ap, arith, rules}
 use Rattle.std.proofs.lemmas.List.{length-set}
 use Rattle.std.proofs.lemmas.Bool.{both_ways}

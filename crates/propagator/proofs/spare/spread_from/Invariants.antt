@@ -1,4 +1,4 @@
--- Looseness has spread over the days passed.
+-- That lots are spare has spread over the days passed.
 use Rattle.std.proofs.Common.{◌+◌}
 use Rattle.propagator.specs.Matching.{Spread}
 use Rattle.propagator.proofs.spare.spread_from.Given as goal

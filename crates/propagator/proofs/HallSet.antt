@@ -75,10 +75,10 @@ fewer_strangers (false ∷ bs) (d ∷ es) xs e f (suc i) l o h =
     omega (arith, fewer_strangers bs es xs (omega arith) (λ k l. f (suc k) (omega arith)) i (omega arith) o h)
 
 -- the flagged lots have only days of flagged lots, and so has another one: the choice has a day less
-pub crowded : (bs : List Bool) (ds es : List ℕ) → length bs ≡ length ds → length es ≡ length ds → Flagged bs ds
+pub hall_set : (bs : List Bool) (ds es : List ℕ) → length bs ≡ length ds → length es ≡ length ds → Flagged bs ds
     → ((k : ℕ) → k < length es → get_or bs k false ≡ true → has (get_or es k 0) (kept bs ds) ≡ 1)
     → (i : ℕ) → i < length es → get_or bs i false ≡ false → has (get_or es i 0) (kept bs ds) ≡ 1 → nvalue es < nvalue ds
-crowded bs ds es e g f in' i l o h =
+hall_set bs ds es e g f in' i l o h =
     omega (
       arith,
       own_days bs ds e f,
