@@ -1,5 +1,6 @@
 -- The number by which a house knows a refusal, and the lot or the rule that it names: 0 where it names none.
-use Rattle.std.specs.Prelude.{ℕ, List, ◌++◌, codes, decimal}
+use Rattle.std.specs.Prelude.{ℕ, List}
+use Rattle.store.specs.Texts.{refused_text}
 use Rattle.sheet.specs.Faults as sheet
 use Rattle.file.specs.declared.fault.FileFault.{FileFault}
 use Rattle.file.specs.declared.fault.FileFault.TheVariants.{NoSheetFile, TrailerDisagrees, ShortWords, ShortBytes, Sheet}
@@ -18,6 +19,5 @@ place_of ShortWords = 0
 place_of ShortBytes = 0
 place_of (Sheet fault) = sheet.place_of fault
 
--- `refused R place P`
 abbrev pub fault_text : FileFault → List ℕ
-fault_text fault = codes "refused " ++ decimal (number_of fault) ++ codes " place " ++ decimal (place_of fault)
+fault_text fault = refused_text (number_of fault) (place_of fault)

@@ -16,6 +16,12 @@ told (Ok done) = Ok done
 told (Err fault) = Err (Sheet fault)
 
 -- The bytes are those of some rules, and fewer than eight more: just these rules are added, all or none.
-pub data AddsBytes (bytes : List ℕ) (slip : Draft) (was : Book) (r : Result (Unit {0}) FileFault) (slip' : Draft) (is : Book) : Type 0 where
-  adds : (rows : List Row) (rest : List ℕ) (s : Result (Unit {0}) SheetFault) → AllByRecursion SmallRule rows → bytes ≡ rules_bytes rows ++ rest → length rest < 8
-      → AddsAll rows slip was s slip' is → r ≡ told s → AddsBytes bytes slip was r slip' is
+pub record AddsBytes (bytes : List ℕ) (slip : Draft) (was : Book) (r : Result (Unit {0}) FileFault) (slip' : Draft) (is : Book) : Type 0 where
+  pub rows : List Row
+  pub rest : List ℕ
+  pub split : bytes ≡ rules_bytes rows ++ rest
+  pub short : length rest < 8
+  pub small : AllByRecursion SmallRule rows
+  pub answer : Result (Unit {0}) SheetFault
+  pub adds : AddsAll rows slip was answer slip' is
+  pub is_told : r ≡ told answer

@@ -4,15 +4,15 @@ ghost use Rattle.file.specs.Faults.{fault_text, number_of, place_of};
 ghost use Rattle.sheet.specs.Faults.{of_season};
 ghost use Rattle.file.specs.declared.fault.FileFault.TheVariants.{Sheet};
 
+use nvalue::season::SeasonFault;
 use sheet::fault::SheetFault;
 use std::fmt;
-use store::season::SeasonFault;
 
 #[derive(Clone, Copy, PartialEq, Eq, Debug)]
 pub enum FileFault {
     // fewer than eight bytes, or no HD at the end
     NoSheetFile,
-    // the trailer's numbers do not fit each other or the file's length, or it has more than 256 lots or more than 32 rules
+    // the trailer does not fit the file, or says 257 lots or 33 rules or more
     TrailerDisagrees,
     // fewer than two words for each lot
     ShortWords,

@@ -3,6 +3,7 @@
 
 pub mod fault;
 pub mod laws;
+pub mod numbers;
 pub mod read;
 pub mod rows;
 pub mod write;

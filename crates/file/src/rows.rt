@@ -5,13 +5,15 @@ ghost use Rattle.file.specs.Format.{rule_bytes, rules_bytes, SmallRule};
 ghost use Rattle.file.specs.Rows.{AddsBytes};
 
 use crate::fault::FileFault;
+use crate::numbers::number;
+use nvalue::stretch::Stretch;
 use rules::row::Row;
 use sheet::book::Book;
 use sheet::slip::Draft;
 use sheet::start::add_rows;
-use wire::numbers::number;
 
-// One more than a book holds: so of more rules than that, one among these is refused. A fixed room, since the planner takes no memory.
+// One more than a book holds: so of more rules than that, one among these is refused. A fixed room, since the planner
+// takes no memory.
 const ROWS: usize = 33;
 
 // Adds the rules that the bytes hold, eight bytes each. An incomplete record at the end is no rule.
@@ -26,7 +28,7 @@ pub fn add_rules(slip: &mut Draft, book: &mut Book, rows: &[u8]) -> Result<(), F
     Ok(())
 }
 
-// A loop of its own beside `read_numbers`, with the rest kept by hand for the same reason: a trait over both kinds of record is no shorter.
+// The rest is kept by hand: a proof knows nothing of what a zip over `iter_mut` wrote.
 fn read_rows(bytes: &[u8], rows: &mut [Row])
     requires { length bytes.now ≡ 8 * length rows.old }
     ensures bytes { rules_bytes rows.new ≡ bytes.now }
@@ -59,9 +61,12 @@ fn read_row(bytes: &[u8]) -> Row
     else {
         return Row::default();
     };
-    Row {
+    let stretch = Stretch {
         first: usize::from(number(*first0, *first1)),
         length: usize::from(number(*length0, *length1)),
+    };
+    Row {
+        stretch,
         floor: u32::from(number(*floor0, *floor1)),
         ceiling: u32::from(number(*ceiling0, *ceiling1)),
     }

@@ -1,24 +1,7 @@
-// Numbers of two bytes, the low one first, read and written.
+// Numbers of two bytes, the low one first. Callers prove that lengths fit and numbers are small enough.
 ghost use Rattle.std.specs.Prelude.{◌≡◌, ◌+◌, ◌*◌, length};
 ghost use Rattle.std.specs.List.{AllByRecursion, flat_map};
-ghost use Rattle.wire.specs.Numbers.{two, Small};
-
-// Reads a number into each word.
-pub fn read_numbers(bytes: &[u8], words: &mut [u32])
-    requires { length bytes.now ≡ 2 * length words.old }
-    ensures bytes { flat_map two words.new ≡ bytes.now }
-    ensures small { AllByRecursion Small words.new }
-{
-    // The rest is kept by hand: a proof knows nothing of what a zip over `iter_mut` wrote.
-    let mut rest = bytes;
-    for word in words.iter_mut() {
-        let [low, high, others @ ..] = rest else {
-            return;
-        };
-        *word = u32::from(number(*low, *high));
-        rest = others;
-    }
-}
+ghost use Rattle.file.specs.Numbers.{two, Small};
 
 // The number that two bytes hold.
 pub fn number(low: u8, high: u8) -> u16

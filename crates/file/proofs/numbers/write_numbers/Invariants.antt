@@ -1,7 +1,7 @@
 use Rattle.std.proofs.Common.{◌≡◌, ◌*◌, take}
 use Rattle.std.specs.List.{flat_map}
-use Rattle.wire.specs.Numbers.{two}
-use Rattle.wire.proofs.numbers.write_numbers.Given as goal
+use Rattle.file.specs.Numbers.{two}
+use Rattle.file.proofs.numbers.write_numbers.Given as goal
 
 abbrev pub invariant-loop-place : goal.invariant-loop-place
 invariant-loop-place l = take (2 * l.place) l.bytes ≡ flat_map two (take l.place l.words)

@@ -1,8 +1,8 @@
 use Rattle.std.proofs.Common.{◌≡◌, ◌+◌, ◌*◌, ◌/◌, ◌%◌, ◌<◌, [], ◌∷◌, length, get_or, ap, ◌∙◌, arith}
 use Rattle.std.proofs.ByRecursion.{All-get_or}
-use Rattle.wire.specs.Numbers.{two, Small}
-use Rattle.wire.proofs.Records.{record_written}
-use Rattle.wire.proofs.numbers.write_numbers.Goals as goal
+use Rattle.file.specs.Numbers.{two, Small}
+use Rattle.file.proofs.Bytes.{record_written}
+use Rattle.file.proofs.numbers.write_numbers.Goals as goal
 
 pub loop-place-preserved : goal.loop-place-preserved
 loop-place-preserved c =
