@@ -61,7 +61,8 @@ module _ (s : Sheet) (file was is : List ℕ) (h : Contents) (holds : Holds file
   tells : Tells s h was is
   tells = tells_this s file was is h holds reads.1
 
-  windows_are : windows_in h is ≡ s.windows
+  -- so are the windows in the words
+  pub windows_are : windows_in h is ≡ s.windows
   windows_are =
       let lots = tells.lots in
       let room : 2 * length s.windows ≤ length was = elim (cases_lt (length was) (2 * length s.windows)) [

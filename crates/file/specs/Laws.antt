@@ -24,8 +24,8 @@ OneSheetForAFile = (s t : Sheet) → file_of s ≡ file_of t → s ≡ t
 -- who reads these bytes, given words enough, finds just this sheet
 abbrev pub ReadsBack : Sheet → List ℕ → Type 0
 ReadsBack s file =
-    (was : List ℕ) (r : Result Contents FileFault) (is : List ℕ) → 2 * length s.windows ≤ length was → Reads file was r is
-    → (h : Contents) × (r ≡ Ok h) × Tells s h was is
+    (was : List ℕ) (r : Result Contents FileFault) (is : List ℕ) → 2 * length s.windows ≤ length was
+    → Reads file was r is → (h : Contents) × (r ≡ Ok h) × Tells s h was is
 
 -- a file of a sheet's size is never refused, given words enough, and what is read is what was written
 abbrev pub ReadWhatWasWritten : Type 0

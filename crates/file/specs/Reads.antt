@@ -51,7 +51,7 @@ read_checks file room =
     ∷ refuse ShortWords (room < 2 * lots_in file)
     ∷ []
 
--- a sheet as it is read: how many lots and rules, the bytes of the rules, and two words for each lot over the first words
+-- A sheet as it is read: how many lots and rules, the bytes of the rules, and two words for each lot, over the first.
 pub record Tells (s : Sheet) (h : Contents) (was is : List ℕ) : Type 0 where
   pub lots : h.lots ≡ length s.windows
   pub rules : h.rules ≡ length s.rules

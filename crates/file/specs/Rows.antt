@@ -16,7 +16,8 @@ told (Ok done) = Ok done
 told (Err fault) = Err (Sheet fault)
 
 -- The bytes are those of some rules, and fewer than eight more: just these rules are added, all or none.
-pub record AddsBytes (bytes : List ℕ) (slip : Draft) (was : Book) (r : Result (Unit {0}) FileFault) (slip' : Draft) (is : Book) : Type 0 where
+pub record AddsBytes (bytes : List ℕ) (slip : Draft) (was : Book) (r : Result (Unit {0}) FileFault) (slip' : Draft)
+    (is : Book) : Type 0 where
   pub rows : List Row
   pub rest : List ℕ
   pub split : bytes ≡ rules_bytes rows ++ rest

@@ -19,7 +19,7 @@ write_checks ws book =
     ∷ faulty (λ lot. Sheet (FaultyWindow lot)) ws
     ∷ []
 
--- After some checks, and where there are bytes enough, a file stands over the first of them, and the answer is its length.
+-- After some checks, a file is written over the first bytes where there are enough; its length is answered.
 abbrev pub WritesBy : List (FileFault → Type 0) → List ℕ → List ℕ → Result ℕ FileFault → List ℕ → Type 0
 WritesBy checks file was r is =
     Checked (checks ++ refuse ShortBytes (length was < length file) ∷ []) r

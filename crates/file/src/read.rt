@@ -53,7 +53,8 @@ pub fn read<'a>(file: &'a [u8], words: &mut [u32]) -> Result<Contents<'a>, FileF
 
 // The last eight bytes, taken apart.
 fn find_trailer(file: &[u8]) -> Result<Trailer, FileFault>
-    ensures { MatchResult result (IsTrailer file.now) (λ e. (Ends file.now → ⊥) × (e ≡ NoSheetFile)) }
+    ensures { MatchResult result (IsTrailer file.now)
+        (λ e. (Ends file.now → ⊥) × (e ≡ NoSheetFile)) }
 {
     let [.., p0, p1, l0, l1, r0, r1, b'H', b'D'] = file else {
         return Err(FileFault::NoSheetFile);

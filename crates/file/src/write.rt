@@ -57,6 +57,7 @@ fn write_sheet(windows: &[Window], rows: &[Row], bytes: &mut [u8]) -> Result<usi
 }
 
 // By place, as `write_numbers` and for the same reason.
+#[tactic(auto, using(crate::proofs::Bytes::record_written))]
 fn write_lots(windows: &[Window], bytes: &mut [u8])
     requires small { AllByRecursion SmallLot windows.now }
     requires room { length bytes.old ≡ 4 * length windows.now }
@@ -68,6 +69,7 @@ fn write_lots(windows: &[Window], bytes: &mut [u8])
 }
 
 // A loop of its own, with records of another length: a trait over both kinds of record is no shorter.
+#[tactic(auto, using(crate::proofs::Bytes::record_written))]
 fn write_rules(rows: &[Row], bytes: &mut [u8])
     requires small { AllByRecursion SmallRule rows.now }
     requires room { length bytes.old ≡ 8 * length rows.now }

@@ -1,8 +1,9 @@
 // The rules of a file added to a book: all of them or none.
-use crate::house::bytes_of;
+use crate::house::{bytes_of, rule};
 use base_stores::words::WordStore;
 use file::fault::FileFault;
 use file::rows::add_rules;
+use nvalue::stretch::Stretch;
 use rules::row::Row;
 use sheet::book::Book;
 use sheet::fault::SheetFault;
@@ -12,8 +13,10 @@ use std::test::Fail;
 
 // The rule that a book has before any is added.
 const FIRST: Row = Row {
-    first: 1,
-    length: 2,
+    stretch: Stretch {
+        first: 1,
+        length: 2,
+    },
     floor: 1,
     ceiling: 2,
 };
@@ -49,15 +52,6 @@ fn add(bytes: &[u8]) -> Result<Added, SheetFault> {
 fn add_numbers(alloc: Global, numbers: &[u16]) -> Result<Added, Fail> {
     let bytes = bytes_of(alloc, numbers)?;
     Ok(add(&bytes)?)
-}
-
-fn rule(first: usize, length: usize, floor: u32, ceiling: u32) -> Row {
-    Row {
-        first,
-        length,
-        floor,
-        ceiling,
-    }
 }
 
 #[test]

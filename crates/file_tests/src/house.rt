@@ -1,4 +1,6 @@
-// What the tests share: sheet files, made number by number and not by the calls under test.
+// What the tests share: sheet files, made number by number and not by the calls under test, and rules.
+use nvalue::stretch::Stretch;
+use rules::row::Row;
 use std::alloc::{AllocError, Global};
 
 // Five lots and one rule over all of them, at most 3 days.
@@ -20,6 +22,15 @@ pub fn five_lots_with(place: u16, lots: u16, rules: u16) -> [u8; 36] {
     file
 }
 
+// A rule over so many lots from the first on, from a floor to a ceiling.
+pub fn rule(first: usize, length: usize, floor: u32, ceiling: u32) -> Row {
+    Row {
+        stretch: Stretch { first, length },
+        floor,
+        ceiling,
+    }
+}
+
 // Each number as two bytes, the low one first.
 pub fn bytes_of(alloc: Global, numbers: &[u16]) -> Result<Vec<u8>, AllocError> {
     let mut bytes = Vec::new(alloc);
@@ -36,7 +47,8 @@ pub fn file_of(alloc: Global, numbers: &[u16]) -> Result<Vec<u8>, AllocError> {
     Ok(file)
 }
 
-// The longest file, of 256 lots with different first days and 32 rules that these days keep: the last over all lots, the others over eight each.
+// The longest file, of 256 lots with different first days and 32 rules that these days keep: the last over all lots, the
+// others over eight each.
 pub fn longest(alloc: Global) -> Result<Vec<u8>, AllocError> {
     let mut numbers = Vec::new(alloc);
     for lot in 0..256 {

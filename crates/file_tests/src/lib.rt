@@ -1,4 +1,5 @@
-// Sheet files read, written, planned and replied to, on examples and at their edges. A crate of its own, so that these calls are proved once.
+// Sheet files read, written, planned and replied to, on examples and at their edges. A crate of its own, so that these
+// calls are proved once.
 #![tactic(auto)]
 
 #[cfg(test)]

@@ -1,4 +1,5 @@
-// Files read: how many lots and rules, the words of the lots, the bytes of the rules; 77 is a word that the caller had there.
+// Files read: how many lots and rules, the words of the lots, the bytes of the rules; 77 is a word that the caller had
+// there.
 use crate::house::{
     EMPTY, FIVE_LOTS, file_of, five_lots_with, longer, longest, lots_257, rules_33, window_of,
 };

@@ -1,20 +1,24 @@
 // Sheets written, byte for byte; 0xEE is a byte that the caller had there.
-use crate::house::{EMPTY, FIVE_LOTS, longest};
+use crate::house::{EMPTY, FIVE_LOTS, longest, rule};
 use base_stores::masks::MaskStore;
 use base_stores::words::WordStore;
 use file::fault::FileFault;
 use file::read::read;
 use file::rows::add_rules;
 use file::write::write;
+use nvalue::stretch::Stretch;
 use rules::row::Row;
+use sheet::asks::{at_least, at_most, not_before};
 use sheet::book::Book;
 use sheet::fault::SheetFault;
 use sheet::start::{closed, start};
 use std::test::Fail;
 
 const MOST_3_DAYS: Row = Row {
-    first: 0,
-    length: 5,
+    stretch: Stretch {
+        first: 0,
+        length: 5,
+    },
     floor: 0,
     ceiling: 3,
 };
@@ -181,20 +185,7 @@ fn the_longest_file_is_written_as_it_was_read(rt: HostRuntime) -> Result<(), Fai
 #[test]
 fn a_sheet_that_was_written_and_read_is_the_same(rt: HostRuntime) -> Result<(), Fail> {
     let mut words = [0, 0, 0, 9999, 255, 256, 9999, 9999];
-    let rules = [
-        Row {
-            first: 0,
-            length: 4,
-            floor: 0,
-            ceiling: 256,
-        },
-        Row {
-            first: 3,
-            length: 1,
-            floor: 255,
-            ceiling: 256,
-        },
-    ];
+    let rules = [rule(0, 4, 0, 256), rule(3, 1, 255, 256)];
     let mut book = Book::empty(0);
     let slip = closed(&WordStore::new(&mut words), &mut book, &rules)?;
     slip.put_away();
@@ -208,6 +199,42 @@ fn a_sheet_that_was_written_and_read_is_the_same(rt: HostRuntime) -> Result<(), 
     assert_eq!(rt; again, [0, 0, 0, 9999, 255, 256, 9999, 9999, 77]);
     assert_eq!(rt; book_again.lots(), 4);
     assert_eq!(rt; book_again.rows(), rules.as_slice());
+    Ok(())
+}
+
+// On masks with gaps, with windows and counts that asks have narrowed: what the file tells is the windows and rules as
+// they stand.
+#[test]
+fn a_sheet_comes_back_from_its_file(rt: HostRuntime) -> Result<(), Fail> {
+    let mut masks = [0b1010_1000, 0b1_1111_0000, 0b11_1100_0000];
+    let mut house = MaskStore::new(&mut masks);
+    let mut book = Book::empty(0);
+    let rules = [rule(0, 3, 0, 3), rule(1, 2, 1, 256)];
+    let slip = closed(&house, &mut book, &rules)?;
+    let asked = [
+        not_before(&slip, &mut house, &book, 1, 5),
+        at_least(&slip, &mut book, 0, 2),
+        at_most(&slip, &mut book, 1, 2),
+    ];
+    slip.put_away();
+    assert_eq!(rt; asked, [Ok(()), Ok(()), Ok(())]);
+    let mut bytes = [0xEE; 36];
+    assert_eq!(rt; write(&book, &house, &mut bytes), Ok(36));
+    let mut words = [77; 6];
+    let contents = read(&bytes, &mut words)?;
+    let mut again = Book::empty(7);
+    let mut draft = start(&WordStore::new(&mut words), &mut again)?;
+    let added = add_rules(&mut draft, &mut again, contents.rows);
+    let slip = draft.close();
+    let rules = slip.rules();
+    slip.put_away();
+    assert_eq!(rt; (added, rules), (Ok(()), 2));
+    assert_eq!(rt; words, [3, 7, 5, 8, 6, 9]);
+    assert_eq!(rt; again.lots(), 3);
+    assert_eq!(rt;
+        again.rows(),
+        [rule(0, 3, 2, 3), rule(1, 2, 1, 2)].as_slice()
+    );
     Ok(())
 }
 

@@ -1,33 +1,27 @@
 -- The host call, from planning the file into as many words as the output has room for.
-use Rattle.std.proofs.Common.{◌≡◌, ℕ, ◌*◌, ◌/◌, ◌<◌, ◌≤◌, ◌⊎◌, ◌≢◌, min, List, [], ◌∷◌, ◌++◌, length, take, drop, Ok, Err, sym, refl, ap, ◌∙◌, subst, inl, inr, arith}
+use Rattle.std.proofs.Common.{◌≡◌, ℕ, ◌*◌, ◌/◌, ◌≤◌, ◌⊎◌, ◌≢◌, min, List, [], ◌∷◌, ◌++◌, length, take, drop, sym, refl, ap, ◌∙◌, subst, inl, inr, arith}
 use Rattle.std.specs.List.{AllByRecursion}
 use Rattle.std.proofs.lemmas.Bool.{cases_lt}
-use Rattle.std.proofs.lemmas.List.{take_at}
-use Rattle.wire.specs.Numbers.{Small}
-use Rattle.store.specs.declared.fault.StoreFault.{StoreFault}
-use Rattle.store.specs.declared.fault.StoreFault.TheVariants.{NoSuchLot, WouldEmpty}
+use Rattle.store.specs.Checks.{Refused, here, later}
 use Rattle.store.specs.declared.window.Window.{Window}
 use Rattle.store.specs.Sound.{Sound}
 use Rattle.nvalue.specs.Choices.{Choice}
-use Rattle.nvalue.proofs.Choices.{choice_length}
-use Rattle.rules.specs.declared.row.Row.{Row}
 use Rattle.rules.specs.Plans.{Earliest}
-use Rattle.sheet.specs.declared.fault.SheetFault.TheVariants as sheet
-use Rattle.sheet.specs.Faults.{number_of_store}
+use Rattle.rules.specs.Sheets.{Sheet}
+use Rattle.sheet.specs.declared.fault.SheetFault.{SheetFault}
+use Rattle.file.specs.Numbers.{Small}
 use Rattle.file.specs.declared.fault.FileFault.{FileFault}
-use Rattle.file.specs.declared.fault.FileFault.TheVariants.{NoSheetFile, TrailerDisagrees, ShortWords, ShortBytes, Sheet}
 use Rattle.file.specs.Faults.{number_of, place_of}
-use Rattle.file.proofs.Records.{length_numbers}
-use Rattle.listing.specs.Text.{list_of, over, refusal_line}
+use Rattle.file.proofs.Bytes.{length_numbers}
+use Rattle.listing.specs.Text.{list_of, refusal_line}
 use Rattle.reply.specs.declared.reply.Replied.{Replied}
 use Rattle.reply.specs.declared.reply.Replied.TheVariants.{Refusal}
-use Rattle.reply.specs.Files as files
-use Rattle.reply.specs.Files.{Accepted, PlansFile, Refuses, too_long, no_sheet_file, trailer_disagrees, faulty_window, rule_refused, short_answer, no_plan}
+use Rattle.reply.specs.Files.{PlanOf, Refuses, last_checks, unread, unfit, unplanned}
 use Rattle.reply.specs.Replies as replies
 use Rattle.reply.specs.Replies.{Text}
 use Rattle.reply.proofs.Determined.{Short, one_plan, one_refusal, planned_or_refused, short_refused}
-use Rattle.host.specs.Calls as calls
-use Rattle.host.specs.Calls.{Agrees, AgreesWithDayplan, Calls, days_bytes}
+use Rattle.reply.proofs.Replies.{days_in}
+use Rattle.host.specs.Calls.{AgreesWithDayplan, Calls, SaysSame, both_plan, both_refuse, days_bytes, planned, refused, short_output}
 
 -- the days of a season are small numbers
 small_days : (ws : List Window) (ds : List ℕ) → AllByRecursion Sound ws → Choice ws ds → AllByRecursion Small ds
@@ -37,102 +31,56 @@ small_days (w ∷ ws) [] s c = tt
 small_days (w ∷ ws) (d ∷ ds) s c = (omega (arith, s.0, c.0), small_days ws ds s.1 c.1)
 
 -- what stands in the first words after a file was planned into them
-pub record Got (file was : List ℕ) (n : ℕ) (days : List ℕ) : Type 0 where
-  pub ws : List Window
-  pub rows : List Row
-  pub accepted : Accepted file ws rows
-  pub first : Earliest ws rows days
-  pub room : length ws ≤ length was
-  pub lots : n ≡ length ws
+module _ (file was is : List ℕ) (n : ℕ) (p : PlanOf file was is n) where
+  pub got_small : AllByRecursion Small (take n is)
+  got_small = subst (AllByRecursion Small) (sym (days_in file was is n p).0) (small_days p.s.windows p.days p.accepted.sound p.first.plan.choice)
 
-pub got : (file was is : List ℕ) (n : ℕ) → PlansFile file was (Ok n) is → Got file was n (take n is)
-got file was is n (files.PlansFile.refused _ _ r _) = cc
-got file was is n (files.PlansFile.planned ws rows ds accepted first room r words) =
-    let lots : n ≡ length ws = cc in
-    let long : length ds ≡ length ws = choice_length ws ds first.plan.choice in
-    let behind = drop (length ws) was in
-    let days : take n is ≡ ds = ap (take n) words ∙ take_at ds behind n (long ∙ sym lots) in
-    record { ws = ws; rows = rows; accepted = accepted; first = subst (Earliest ws rows) (sym days) first; room = room; lots = lots }
+  pub calls_planned : (output : List ℕ) → length was ≡ min 256 (length output / 2)
+      → Calls file output 0 (days_bytes (take n is) ++ drop (2 * n) output)
+  calls_planned output room =
+      let days = days_in file was is n p in
+      let long : 2 * n ≡ length (days_bytes (take n is)) = omega (arith, length_numbers (take n is), ap length days.0, days.1) in
+      planned p.s (take n is) p.accepted (subst (Earliest p.s) (sym days.0) p.first) (omega (arith, p.room)) refl
+      (ap (λ k. days_bytes (take n is) ++ drop k output) long)
 
-module _ (file was : List ℕ) (n : ℕ) (days : List ℕ) (g : Got file was n days) where
-  pub got_small : AllByRecursion Small days
-  got_small = small_days g.ws days g.accepted.sound g.first.plan.choice
+-- with room for as many days, or for every sheet, the same refusal is met first
+same_last : (s : Sheet) (room half : ℕ) (why : SheetFault) → room ≡ min 256 half → length s.windows ≤ 256
+    → Refused (last_checks s room) why → Refused (last_checks s half) why
+same_last s room half why r few (here short) = here (omega (arith, short.0), short.1)
+same_last s room half why r few (later n (here none)) = later (λ e h. n e (omega (arith, h.0), h.1)) (here none)
+same_last s room half why r few (later _ (later _ n)) = absurd n
 
-  got_long : length days ≡ n
-  got_long = choice_length g.ws days g.first.plan.choice ∙ sym g.lots
-
-  module _ (output : List ℕ) (room : length was ≡ min 256 (length output / 2)) where
-    whole : days_bytes days ++ drop (2 * n) output ≡ over (days_bytes days) output
-    whole = ap (λ k. days_bytes days ++ drop k output) (let k : 2 * n ≡ length (days_bytes days) = omega (arith, length_numbers days, got_long) in k)
-
-    pub calls_planned : Calls file output 0 (days_bytes days ++ drop (2 * n) output)
-    calls_planned = calls.Calls.planned g.ws g.rows days g.accepted g.first (omega (arith, g.room)) refl whole
-
--- with room for the same sheets the same refusal is met first
-room_same : (file : List ℕ) (n m : ℕ) (e : FileFault) → ((k : ℕ) → k ≤ 256 → n < k → m < k) → ((k : ℕ) → k ≤ 256 → k ≤ n → k ≤ m) → Refuses file n e → Refuses file m e
-room_same file n m e less more (too_long l r) = too_long l r
-room_same file n m e less more (no_sheet_file l x r) = no_sheet_file l x r
-room_same file n m e less more (trailer_disagrees l x y r) = trailer_disagrees l x y r
-room_same file n m e less more (faulty_window ws rows lot h f r) = faulty_window ws rows lot h f r
-room_same file n m e less more (rule_refused ws rows why h s f r) = rule_refused ws rows why h s f r
-room_same file n m e less more (short_answer ws rows a l r) = short_answer ws rows a (less (length ws) a.holds.few_lots l) r
-room_same file n m e less more (no_plan ws rows a l x r) = no_plan ws rows a (more (length ws) a.holds.few_lots l) x r
-
-file_refused : (file was is : List ℕ) (e : FileFault) → PlansFile file was (Err e) is → Refuses file (length was) e
-file_refused file was is e (files.PlansFile.refused f r s _) = let same : f ≡ e = cc in subst (Refuses file (length was)) same r
-file_refused file was is e (files.PlansFile.planned _ _ _ _ _ _ s _) = cc
-
-pub calls_refused : (file was is output : List ℕ) (e : FileFault) → length was ≡ min 256 (length output / 2) → PlansFile file was (Err e) is → Calls file output (number_of e) output
-calls_refused file was is output e room p =
-    let half = length output / 2 in
-    calls.Calls.refused e (room_same file (length was) half e (λ k few h. omega arith) (λ k few h. omega arith) (file_refused file was is e p)) refl refl
-
-some_store : (f : StoreFault) → number_of_store f ≢ 0
-some_store NoSuchLot = λ h. omega arith
-some_store WouldEmpty = λ h. omega arith
+pub calls_refused : (file output : List ℕ) (room : ℕ) (e : FileFault) → room ≡ min 256 (length output / 2) → Refuses file room e
+    → Calls file output (number_of e) output
+calls_refused file output room e enough (unread r) = refused e (unread r) refl refl
+calls_refused file output room e enough (unfit s why h r is) = refused e (unfit s why h r is) refl refl
+calls_refused file output room e enough (unplanned s why a r is) =
+    refused e (unplanned s why a (same_last s room (length output / 2) why enough a.holds.few_lots r) is) refl refl
 
 -- no refusal has the number 0
 some_number : (e : FileFault) → number_of e ≢ 0
-some_number NoSheetFile = λ h. omega arith
-some_number TrailerDisagrees = λ h. omega arith
-some_number ShortWords = λ h. omega arith
-some_number ShortBytes = λ h. omega arith
-some_number (Sheet (sheet.Store refusal)) = some_store refusal.fault
-some_number (Sheet sheet.NoSuchDay) = λ h. omega arith
-some_number (Sheet sheet.NoSuchStretch) = λ h. omega arith
-some_number (Sheet sheet.NoSuchCount) = λ h. omega arith
-some_number (Sheet (sheet.NoSuchRule rule)) = λ h. omega arith
-some_number (Sheet sheet.ShortWork) = λ h. omega arith
-some_number (Sheet sheet.ShortAnswer) = λ h. omega arith
-some_number (Sheet sheet.TooManyLots) = λ h. omega arith
-some_number (Sheet (sheet.FaultyWindow lot)) = λ h. omega arith
-some_number (Sheet sheet.BookFull) = λ h. omega arith
-some_number (Sheet (sheet.NoCountLeft rule)) = λ h. omega arith
-some_number (Sheet sheet.NoFirmWindows) = λ h. omega arith
-some_number (Sheet sheet.NoPlan) = λ h. omega arith
-some_number (Sheet sheet.Mismatch) = λ h. omega arith
+some_number e = λ h. grind arith
 
 -- a call that was refused, beside the line that dayplan prints
-line_agrees : (file was text : List ℕ) (told : Replied) (number : ℕ) (e f : FileFault) → (e ≡ f) ⊎ Short file (length was / 2) e → number ≡ number_of e
-    → text ≡ refusal_line (number_of f) (place_of f) → told ≡ Refusal (length text) → Agrees file was number was text told
+line_agrees : (file was text : List ℕ) (told : Replied) (number : ℕ) (e f : FileFault) → (e ≡ f) ⊎ Short file (length was / 2) e
+    → number ≡ number_of e → text ≡ refusal_line (number_of f) (place_of f) → told ≡ Refusal (length text)
+    → SaysSame file was number was text told
 line_agrees file was text told number e f (inl same) n l t =
     let number_is : number ≡ number_of f = n ∙ ap number_of same in
-    calls.Agrees.both_refuse (place_of f) t (l ∙ ap (λ k. refusal_line k (place_of f)) (sym number_is)) (λ z. some_number e (sym n ∙ z)) refl
-line_agrees file was text told number e f (inr s) n l t = calls.Agrees.short_output s.ws s.rows s.accepted (omega (arith, s.few)) (n ∙ ap number_of s.told) refl
+    both_refuse (place_of f) t (l ∙ ap (λ k. refusal_line k (place_of f)) (sym number_is)) (λ z. some_number e (sym n ∙ z)) refl
+line_agrees file was text told number e f (inr s) n l t = short_output s.s s.accepted (omega (arith, s.few)) (n ∙ ap number_of s.told) refl
 
-module _ (file was : List ℕ) (number : ℕ) (is : List ℕ) where
-  agree : (text : List ℕ) (told : Replied) → Calls file was number is → Text file text told → Agrees file was number is text told
-  agree text told (calls.Calls.planned ws rows ds a first room n e) (replies.Text.plan vs qs other b second l t) =
-      let days : other ≡ ds = one_plan file vs ws qs rows other ds b a second first in
-      calls.Agrees.both_plan ds t (l ∙ ap list_of days) n e
-  agree text told (calls.Calls.planned ws rows ds a first room n e) (replies.Text.refusal f r l t) = absurd (planned_or_refused file ws rows ds 256 f a first a.holds.few_lots r)
-  agree text told (calls.Calls.refused e r n s) (replies.Text.plan ws rows ds a first l t) =
-      elim (cases_lt (length was / 2) (length ws)) [
-        | inl few ↦ calls.Agrees.short_output ws rows a (omega arith) (n ∙ ap number_of (short_refused file ws rows (length was / 2) e a few r)) s
-        | inr h ↦ absurd (planned_or_refused file ws rows ds (length was / 2) e a first h r)
-      ]
-  agree text told (calls.Calls.refused e r n s) (replies.Text.refusal f q l t) =
-      subst (λ xs. Agrees file was number xs text told) (sym s) (line_agrees file was text told number e f (one_refusal file (length was / 2) e f r q) n l t)
-
-  pub calls_agree : Calls file was number is → AgreesWithDayplan file was number is
-  calls_agree c text told t = agree text told c t
+pub calls_agree : (file was : List ℕ) (number : ℕ) (is : List ℕ) → Calls file was number is → AgreesWithDayplan file was number is
+calls_agree file was number is (planned s ds a first room n e) text told (replies.Text.plan t other b second l u) =
+    let days : other ≡ ds = one_plan file t s other ds b a second first in
+    both_plan ds u (l ∙ ap list_of days) n e
+calls_agree file was number is (planned s ds a first room n e) text told (replies.Text.refusal f r _ _) =
+    absurd (planned_or_refused file s a 256 ds f first a.holds.few_lots r)
+calls_agree file was number is (refused e r n same) text told (replies.Text.plan s ds a first l t) =
+    elim (cases_lt (length was / 2) (length s.windows)) [
+      | inl few ↦ short_output s a (omega arith) (n ∙ ap number_of (short_refused file s a (length was / 2) e few r)) same
+      | inr h ↦ absurd (planned_or_refused file s a (length was / 2) ds e first h r)
+    ]
+calls_agree file was number is (refused e r n same) text told (replies.Text.refusal f q l t) =
+    subst (λ xs. SaysSame file was number xs text told) (sym same)
+    (line_agrees file was text told number e f (one_refusal file (length was / 2) e f r q) n l t)

@@ -1,13 +1,15 @@
-// The host call: a program written in C hands over a sheet file, and gets its plan. It needs no memory of its own and no set-up; docs/HOST.md says how to link it.
+// The host call: from C, a sheet file's bytes go in and its plan comes back. It needs no memory of its own and no
+// set-up; docs/HOST.md says how to link it.
 #![tactic(auto)]
 
 ghost use Rattle.host.specs.Calls.{AgreesWithDayplan, Calls};
 
+use file::numbers::write_numbers;
 use reply::plan_file::plan_file;
 use store::limits::LOTS;
-use wire::numbers::write_numbers;
 
-// Writes the earliest plan of a sheet file into the first bytes of the output, two for each lot, the low one first, and answers 0; or answers the number of a refusal, and writes nothing.
+// Writes the earliest plan of a sheet file into the first bytes of the output, two for each lot, the low one first, and
+// answers 0; or answers the number of a refusal, and writes nothing.
 #[unsafe(no_mangle)]
 pub extern "C" fn rigbuwate_plan(file: &[u8], output: &mut [u8]) -> u32
     ensures calls { Calls file.now output.old result output.new }

@@ -1,4 +1,3 @@
 pub mod Determined
-pub mod Files
 pub mod Planning
 pub mod Replies

@@ -1,56 +1,59 @@
--- What planning a sheet file gives: the first refusal on the way, or the earliest plan of the file's lots and rules.
-use Rattle.std.specs.Prelude.{◌≡◌, ℕ, ◌<◌, ◌≤◌, List, ◌∷◌, ◌++◌, length, drop, Ok, Err, Result}
+-- What planning a sheet file gives: the first refusal on the way, or the earliest plan of the sheet that it holds.
+use Rattle.std.specs.Prelude.{◌≡◌, ℕ, ◌<◌, ◌≤◌, List, [], ◌∷◌, length, Result, MatchResult}
 use Rattle.std.specs.List.{AllByRecursion}
-use Rattle.store.specs.declared.window.Window.{Window}
-use Rattle.store.specs.Sound.{FirstFaulty, Sound}
-use Rattle.rules.specs.declared.row.Row.{Row}
+use Rattle.store.specs.Checks.{Refused, refuse}
+use Rattle.store.specs.Over.{over}
+use Rattle.store.specs.Sound.{Sound}
+use Rattle.nvalue.specs.Seasons.{faulty}
 use Rattle.rules.specs.Plans.{Earliest, NoPlan}
+use Rattle.rules.specs.Sheets.{Fits, Sheet}
 use Rattle.sheet.specs.declared.fault.SheetFault.{SheetFault}
-use Rattle.sheet.specs.declared.fault.SheetFault.TheVariants.{FaultyWindow, NoSuchStretch, NoSuchCount, ShortAnswer, NoPlan as NoPlanLeft}
-use Rattle.sheet.specs.Drafts.{NoStretch, NoCount}
-use Rattle.sheet.specs.Fits.{Fits}
+use Rattle.sheet.specs.declared.fault.SheetFault.TheVariants as fault
+use Rattle.sheet.specs.Drafts.{rules_checks}
 use Rattle.file.specs.declared.fault.FileFault.{FileFault}
-use Rattle.file.specs.declared.fault.FileFault.TheVariants.{NoSheetFile, TrailerDisagrees, Sheet}
-use Rattle.file.specs.Format.{file_of}
+use Rattle.file.specs.declared.fault.FileFault.TheVariants.{NoSheetFile, TrailerDisagrees, Sheet as Of}
+use Rattle.file.specs.Format.{Holds}
 use Rattle.file.specs.Reads.{Agrees, Ends}
 
--- the file holds these lots and rules, and they are not too many
-pub record Holds (file : List ℕ) (ws : List Window) (rows : List Row) : Type 0 where
-  pub is : file ≡ file_of ws rows
-  pub few_lots : length ws ≤ 256
-  pub few_rules : length rows ≤ 32
+-- a file that holds a sheet of sound windows and of rules that fit
+pub record Accepted (file : List ℕ) (s : Sheet) : Type 0 where
+  pub holds : Holds file s
+  pub sound : AllByRecursion Sound s.windows
+  pub fit : AllByRecursion (Fits (length s.windows)) s.rules
 
--- a file of lots and rules that are all accepted
-pub record Accepted (file : List ℕ) (ws : List Window) (rows : List Row) : Type 0 where
-  pub holds : Holds file ws rows
-  pub sound : AllByRecursion Sound ws
-  pub fit : AllByRecursion (Fits (length ws)) rows
+-- the checks of a file's bytes
+abbrev pub file_checks : List ℕ → List (FileFault → Type 0)
+file_checks file =
+    refuse TrailerDisagrees (1288 < length file)
+    ∷ refuse NoSheetFile (Ends file → ⊥)
+    ∷ refuse TrailerDisagrees (Agrees file → ⊥)
+    ∷ []
 
--- why a sheet of so many lots does not take a rule: its stretch is looked at first
-pub data Misfits (lots : ℕ) (q : Row) (why : SheetFault) : Type 0 where
-  no_such_stretch : NoStretch lots q.first q.length → why ≡ NoSuchStretch → Misfits lots q why
-  no_such_count : (NoStretch lots q.first q.length → ⊥) → NoCount q.floor q.ceiling → why ≡ NoSuchCount → Misfits lots q why
+-- those of the sheet that it holds: a faulty window, and then the rules in order
+abbrev pub fit_checks : Sheet → List (SheetFault → Type 0)
+fit_checks s = faulty fault.FaultyWindow s.windows ∷ rules_checks (length s.windows) s.rules
 
--- the first of the rules that does not fit
-pub record FirstMisfit (lots : ℕ) (rows : List Row) (why : SheetFault) : Type 0 where
-  pub before : List Row
-  pub q : Row
-  pub after : List Row
-  pub split : rows ≡ before ++ q ∷ after
-  pub fit : AllByRecursion (Fits lots) before
-  pub misfits : Misfits lots q why
+-- those of planning a sheet that was accepted, where there is room for so many days
+abbrev pub last_checks : Sheet → ℕ → List (SheetFault → Type 0)
+last_checks s room = refuse fault.ShortAnswer (room < length s.windows) ∷ refuse fault.NoPlan (NoPlan s) ∷ []
 
 -- The refusal that planning a file meets first, where there is room for so many days.
 pub data Refuses (file : List ℕ) (room : ℕ) (e : FileFault) : Type 0 where
-  too_long : 1288 < length file → e ≡ TrailerDisagrees → Refuses file room e
-  no_sheet_file : length file ≤ 1288 → (Ends file → ⊥) → e ≡ NoSheetFile → Refuses file room e
-  trailer_disagrees : length file ≤ 1288 → Ends file → (Agrees file → ⊥) → e ≡ TrailerDisagrees → Refuses file room e
-  faulty_window : (ws : List Window) (rows : List Row) (lot : ℕ) → Holds file ws rows → FirstFaulty ws lot → e ≡ Sheet (FaultyWindow lot) → Refuses file room e
-  rule_refused : (ws : List Window) (rows : List Row) (why : SheetFault) → Holds file ws rows → AllByRecursion Sound ws → FirstMisfit (length ws) rows why → e ≡ Sheet why → Refuses file room e
-  short_answer : (ws : List Window) (rows : List Row) → Accepted file ws rows → room < length ws → e ≡ Sheet ShortAnswer → Refuses file room e
-  no_plan : (ws : List Window) (rows : List Row) → Accepted file ws rows → length ws ≤ room → NoPlan ws rows → e ≡ Sheet NoPlanLeft → Refuses file room e
+  unread : Refused (file_checks file) e → Refuses file room e
+  unfit : (s : Sheet) (why : SheetFault) → Holds file s → Refused (fit_checks s) why → e ≡ Of why → Refuses file room e
+  unplanned : (s : Sheet) (why : SheetFault) → Accepted file s → Refused (last_checks s room) why → e ≡ Of why
+      → Refuses file room e
+
+-- the file's sheet has an earliest plan, which stands over the answer words that were; so many lots are answered
+pub record PlanOf (file was is : List ℕ) (lots : ℕ) : Type 0 where
+  pub s : Sheet
+  pub accepted : Accepted file s
+  pub days : List ℕ
+  pub first : Earliest s days
+  pub room : length s.windows ≤ length was
+  pub many : lots ≡ length s.windows
+  pub words : is ≡ over days was
 
 -- What planning a file into answer words gives.
-pub data PlansFile (file was : List ℕ) (r : Result ℕ FileFault) (is : List ℕ) : Type 0 where
-  refused : (e : FileFault) → Refuses file (length was) e → r ≡ Err e → is ≡ was → PlansFile file was r is
-  planned : (ws : List Window) (rows : List Row) (ds : List ℕ) → Accepted file ws rows → Earliest ws rows ds → length ws ≤ length was → r ≡ Ok (length ws) → is ≡ ds ++ drop (length ws) was → PlansFile file was r is
+abbrev pub PlansFile : List ℕ → List ℕ → Result ℕ FileFault → List ℕ → Type 0
+PlansFile file was r is = MatchResult r (PlanOf file was is) (λ e. Refuses file (length was) e × (is ≡ was))

@@ -2,8 +2,9 @@
 ghost use Rattle.std.specs.Prelude.{◌≡◌, ℕ, List};
 ghost use Rattle.store.specs.Pairs.{paired};
 ghost use Rattle.rules.specs.declared.row.Row.{Row};
-ghost use Rattle.file.specs.Format.{rules_bytes};
-ghost use Rattle.reply.specs.Files.{Holds, PlansFile};
+ghost use Rattle.rules.specs.Sheets.{sheet};
+ghost use Rattle.file.specs.Format.{Holds, rules_bytes};
+ghost use Rattle.reply.specs.Files.{PlansFile};
 
 use base_stores::words::WordStore;
 use file::fault::FileFault;
@@ -19,7 +20,8 @@ use store::store::WindowStore;
 // As long as a file of 256 lots and 32 rules.
 const LONGEST: usize = 1288;
 
-// Writes the earliest plan of a sheet file into the first answer words, one word a lot, and answers how many lots there are; or the first refusal on the way.
+// Writes the earliest plan of a sheet file into the first answer words, one word a lot, and answers how many lots there
+// are; or the first refusal on the way.
 pub fn plan_file(file: &[u8], answer: &mut [u32]) -> Result<usize, FileFault>
     ensures { PlansFile file.now answer.old result answer.new }
 {
@@ -33,7 +35,8 @@ pub fn plan_file(file: &[u8], answer: &mut [u32]) -> Result<usize, FileFault>
 
 // The same from the words of the lots and the bytes of the rules.
 fn plan_lots(words: &mut [u32], rows: &[u8], answer: &mut [u32]) -> Result<usize, FileFault>
-    ensures { (file : List ℕ) (qs : List Row) → Holds file (paired words.old) qs → rows.now ≡ rules_bytes qs → PlansFile file answer.old result answer.new }
+    ensures { (file : List ℕ) (rules : List Row) → Holds file (sheet (paired words.old) rules)
+        → rows.now ≡ rules_bytes rules → PlansFile file answer.old result answer.new }
 {
     let house = WordStore::new(words);
     let mut book = Book::empty(0);

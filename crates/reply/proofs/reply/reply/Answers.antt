@@ -1,4 +1,4 @@
-use Rattle.std.proofs.Common.{refl, rules}
+use Rattle.std.proofs.Common.{rules}
 use Rattle.reply.specs.declared.reply.Replied.TheVariants.{Plan, Refusal}
 use Rattle.reply.proofs.Determined.{one_text}
 use Rattle.reply.proofs.Replies.{Told, list_replied, line_replied}
@@ -12,7 +12,8 @@ returns-in-Ok-clause-replies c =
 pub returns-in-Err-clause-replies : goal.returns-in-Err-clause-replies
 returns-in-Err-clause-replies c =
     let told : Told Refusal c.write_refusal.result c.map-in-Err.result = record { written = λ k e. search rules; refused = λ x e. search rules } in
-    line_replied c.args.file.now _ c.plan_file.new.answer c.in-Err.fault refl (rw c.in-Err.is at c.plan_file.ensures) c.args.out.now c.write_refusal.new.out _ _ told (rw (c.number.ensures, c.place.ensures) at c.write_refusal.ensures)
+    let refused = rw c.in-Err.is at c.plan_file.ensures in
+    line_replied c.args.file.now c.in-Err.fault c.number.result c.place.result refused.0 c.number.ensures c.place.ensures c.args.out.now c.write_refusal.new.out _ _ told c.write_refusal.ensures
 
 pub returns-in-Ok-clause-one : goal.returns-in-Ok-clause-one
 returns-in-Ok-clause-one c = one_text c.args.file.now
