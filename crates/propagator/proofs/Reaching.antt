@@ -9,7 +9,7 @@ use Rattle.nvalue.specs.Nvalue.{nvalue}
 use Rattle.nvalue.proofs.Choices.{choice_get_or, choice_length, choice_set}
 use Rattle.nvalue.proofs.Nvalue.{nvalue_unset}
 use Rattle.propagator.specs.declared.reach.Reach.{Reach}
-use Rattle.propagator.specs.Supports.{Best, Supported}
+use Rattle.propagator.specs.Supports.{Best, BestDay}
 use Rattle.extremes.specs.Flags.{Set, Unset}
 use Rattle.propagator.specs.Reach.{Facing, CanReach, Passed, Seen, Sees}
 use Rattle.propagator.proofs.Moved.{moved_free, moved_gains, moved_shared}
@@ -48,7 +48,7 @@ module _ (ws : List Window) (days : List ℕ) (best : Best ws days) (spare : Lis
   }
 
   -- where no lot stands at the day and nothing else is lost, the lot takes it
-  takes : (es : List ℕ) → Choice ws es → nvalue days ≤ nvalue (set es lot v) → Supported ws lot v
+  takes : (es : List ℕ) → Choice ws es → nvalue days ≤ nvalue (set es lot v) → BestDay ws lot v
   takes es c more = (
     set es lot v,
     record { choice = choice_set ws es lot v c (λ _. inside); most = λ zs d. omega (arith, best.most zs d) },
@@ -57,7 +57,7 @@ module _ (ws : List Window) (days : List ℕ) (best : Best ws days) (spare : Lis
 
   module _ (reach reach' : Reach) (e : ℕ) (p : Reaching ws days spare lot v reach) (s : Sees reach e reach') where
     -- the reach comes to the lot's own day
-    pub reaches_own : e ≡ get_or days lot 0 → v ≢ get_or days lot 0 → Supported ws lot v
+    pub reaches_own : e ≡ get_or days lot 0 → v ≢ get_or days lot 0 → BestDay ws lot v
     reaches_own is other =
         let x = p.chains e s.can_reach s.unseen (λ q. other (sym q ∙ is)) in
         let long = choice_length ws x.es x.choice in
@@ -67,7 +67,7 @@ module _ (ws : List Window) (days : List ℕ) (best : Best ws days) (spare : Lis
         takes x.es x.choice (omega (arith, x.count, more))
 
     -- the reach comes to a free day
-    pub reaches_free : ((m : ℕ) → m < length ws → get_or days m 0 ≡ e → ⊥) → Supported ws lot v
+    pub reaches_free : ((m : ℕ) → m < length ws → get_or days m 0 ≡ e → ⊥) → BestDay ws lot v
     reaches_free free = elim (cases_eq e v) [
       | inl q ↦ takes days best.choice (moved_free days lot v (omega (arith, many)) (λ k b h. free k (omega (arith, many)) (h ∙ sym q)))
       | inr ne ↦

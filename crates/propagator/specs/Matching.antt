@@ -6,7 +6,7 @@ use Rattle.nvalue.specs.Choices.{In}
 use Rattle.extremes.specs.Flags.{Set, Unset}
 use Rattle.extremes.specs.Turns.{EndBefore}
 use Rattle.propagator.specs.declared.shut.Matching.{Matching}
-use Rattle.propagator.specs.Supports.{Best, Supported}
+use Rattle.propagator.specs.Supports.{Best, BestDay}
 
 -- a day's mate: the lot that has it
 abbrev pub Mate : List (Option ℕ) → ℕ → ℕ → Type 0
@@ -27,7 +27,7 @@ pub record Mated (t : ℕ) (days : List ℕ) (mates : List (Option ℕ)) (spare 
 -- The spare lots: best choices give them any day of their windows. Lots that share a day are spare, and all days of a
 -- spare lot's window are those of spare lots.
 pub record Spared (ws : List Window) (days : List ℕ) (spare : List Bool) : Type 0 where
-  pub any : (k : ℕ) → k < length ws → Set spare k → (day : ℕ) → In (window_at ws k) day → Supported ws k day
+  pub any : (k : ℕ) → k < length ws → Set spare k → (day : ℕ) → In (window_at ws k) day → BestDay ws k day
   pub company : (k l : ℕ) → k < length ws → l < length ws → k ≢ l → slice_index days k ≡ slice_index days l
       → Set spare k
   pub closed : (k : ℕ) → k < length ws → Set spare k → (day : ℕ) → In (window_at ws k) day

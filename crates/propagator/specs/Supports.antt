@@ -1,4 +1,4 @@
--- Supports: the days that choices with the most different days give to a lot.
+-- Best days, which are supports: the days that choices with the most different days give to a lot.
 use Rattle.std.specs.Prelude.{◌≡◌, ℕ, ◌≤◌, List, slice_index}
 use Rattle.store.specs.declared.window.Window.{Window}
 use Rattle.nvalue.specs.Choices.{In, Choice}
@@ -9,9 +9,9 @@ pub record Best (ws : List Window) (days : List ℕ) : Type 0 where
   pub choice : Choice ws days
   pub most : HasMost ws days
 
--- the day has a support: a best choice gives it to the lot
-abbrev pub Supported : List Window → ℕ → ℕ → Type 0
-Supported ws lot day = (ds : List ℕ) × Best ws ds × (slice_index ds lot ≡ day)
+-- the day is one that a best choice gives to the lot
+abbrev pub BestDay : List Window → ℕ → ℕ → Type 0
+BestDay ws lot day = (ds : List ℕ) × Best ws ds × (slice_index ds lot ≡ day)
 
 -- no best choice gives the lot a day of the block
 abbrev pub NoSupport : List Window → ℕ → Window → Type 0
@@ -27,6 +27,6 @@ NoneAfter ws lot day = (ds : List ℕ) → Best ws ds → slice_index ds lot ≤
 
 -- the smallest window that holds every day which a best choice gives the lot
 pub record BoundSupports (ws : List Window) (lot : ℕ) (used : Window) : Type 0 where
-  pub low : Supported ws lot used.low
-  pub high : Supported ws lot used.high
+  pub low : BestDay ws lot used.low
+  pub high : BestDay ws lot used.high
   pub kept : (ds : List ℕ) → Best ws ds → In used (slice_index ds lot)

@@ -3,7 +3,7 @@ ghost use Rattle.std.specs.Prelude.{◌≡◌, ℕ, ◌<◌, length};
 ghost use Rattle.extremes.specs.Shown.{HasMost};
 ghost use Rattle.extremes.specs.Flags.{Unset};
 ghost use Rattle.extremes.specs.Turns.{EndBefore};
-ghost use Rattle.propagator.specs.Supports.{Best, NoneAfter, NoneBefore, Supported, BoundSupports};
+ghost use Rattle.propagator.specs.Supports.{Best, NoneAfter, NoneBefore, BestDay, BoundSupports};
 ghost use Rattle.propagator.specs.Matching.{Unmatched, IsMatching};
 ghost use Rattle.propagator.specs.Tight.{Hull};
 
@@ -78,7 +78,7 @@ fn first_day(matching: Matching, lot: usize) -> u32
     requires matching { IsMatching matching }
     requires there { lot < length matching.season.windows.now }
     requires bound { Unset matching.spare.now lot }
-    ensures reached { Supported matching.entry.season.windows.now lot result }
+    ensures reached { BestDay matching.entry.season.windows.now lot result }
     ensures first { NoneBefore matching.entry.season.windows.now lot result }
 {
     let mut day = matching.season.windows[lot].low;
@@ -101,7 +101,7 @@ fn last_day(matching: Matching, lot: usize) -> u32
     requires matching { IsMatching matching }
     requires there { lot < length matching.season.windows.now }
     requires bound { Unset matching.spare.now lot }
-    ensures reached { Supported matching.entry.season.windows.now lot result }
+    ensures reached { BestDay matching.entry.season.windows.now lot result }
     ensures last { NoneAfter matching.entry.season.windows.now lot result }
 {
     let mut day = matching.season.windows[lot].high;

@@ -3,7 +3,7 @@ ghost use Rattle.std.specs.Prelude.{◌≡◌, ◌<◌, ◌≢◌, true, false, 
 ghost use Rattle.store.specs.Windows.{window_at};
 ghost use Rattle.nvalue.specs.Choices.{In};
 ghost use Rattle.extremes.specs.Flags.{Unset};
-ghost use Rattle.propagator.specs.Supports.{Supported};
+ghost use Rattle.propagator.specs.Supports.{BestDay};
 ghost use Rattle.propagator.specs.Matching.{IsMatching};
 ghost use Rattle.propagator.specs.Reach.{Faces, Shuts};
 
@@ -33,7 +33,7 @@ pub fn shut_out(matching: Matching, lot: usize, day: u32, reach: &mut Reach) -> 
     requires inside { In (window_at matching.season.windows.now lot) day }
     requires facing { Faces matching lot day reach.old }
     requires room { reach.old.high < length matching.mates.now }
-    ensures reached { result ≡ false → Supported matching.entry.season.windows.now lot day }
+    ensures reached { result ≡ false → BestDay matching.entry.season.windows.now lot day }
     ensures shut { result ≡ true → Shuts matching.entry lot day reach.new }
     ensures room { result ≡ true → reach.new.high < length matching.entry.mates.now }
 {
