@@ -1,3 +1,5 @@
-pub mod Choosing
-pub mod Settling
+pub mod Trying
 pub mod Deciding
+pub mod Firm
+pub mod Calls
+pub mod Claims

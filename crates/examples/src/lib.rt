@@ -1,4 +1,5 @@
-// The worked examples: a table of what the definitions make of ten known cases. No program is run: the contract says that every claim of the table holds.
+// The worked examples: a table of what the definitions, and with them the calls, make of ten known cases. No program
+// is run: the contract says that every claim of the table holds.
 #![tactic(auto)]
 
 ghost use Rattle.examples.specs.Table.{AllShown};
