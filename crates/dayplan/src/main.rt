@@ -1,27 +1,70 @@
-// dayplan: a sheet file from standard input; its plan, or one refusal line, to standard output. It ends with status 0 after a plan and 1 after a refusal; on standard error it tells only of
-// input that cannot be read, output that cannot be written, and memory that runs out, with status 1 too.
+// dayplan: a sheet file from standard input; its plan, or one refusal line, to standard output.
+// It ends with 0 after a plan, 1 after a refusal, 2 when it is called wrongly, 3 where reading or writing fails.
 #![tactic(auto)]
 
-use anyhow::bail;
-use reply::reply::{Replied, reply};
-use std::io::{Read, Write};
+use console::arguments::{Request, asked};
+use console::fault::StreamFault;
+use console::run::run;
+use console::writing::write_text;
+use reply::reply::Replied;
+use std::env;
 use std::process::ExitCode;
 
-// One byte more than the longest sheet file: longer input is refused for its length.
-const INPUT: u64 = 1289;
+const USAGE: &str = "usage: dayplan < SHEET, or dayplan --help";
 
-// Room for the list of 256 lots.
-const OUTPUT: usize = 8192;
+const HELP: &[u8] = b"usage: dayplan < SHEET
+Reads a sheet file from standard input. Prints its earliest plan: the day of each lot, and how many days there are.
+Where there is none, or the file is not in order, it prints one line: refused, a number, and the place.
 
-fn main(rt: HostRuntime) -> anyhow::Result<ExitCode> {
-    let mut file = Vec::new(rt.alloc());
-    rt.stdin().take(INPUT).read_to_end(&mut file)?;
-    let mut output = [0; OUTPUT];
-    let (bytes, status) = match reply(&file, &mut output) {
-        Ok(Replied::Plan(bytes)) => (bytes, ExitCode::SUCCESS),
-        Ok(Replied::Refusal(bytes)) => (bytes, ExitCode::FAILURE),
-        Err(_) => bail!("the text does not fit"),
+  --help     prints this
+  --version  prints the version
+
+Status: 0 a plan, 1 a refusal, 2 called wrongly, 3 the input cannot be read or the output not written
+";
+
+const VERSION: &[u8] = b"dayplan 1.0\n";
+
+fn main(rt: HostRuntime) -> ExitCode {
+    let status = match request(&rt) {
+        Request::Plan => status_of(&rt, run(&mut rt.stdin(), &mut rt.stdout())),
+        Request::Help => print(&rt, HELP),
+        Request::Version => print(&rt, VERSION),
+        Request::Usage => {
+            let _ = eprintln!(rt; "{USAGE}");
+            2
+        }
     };
-    rt.stdout().write_all(&output[..bytes])?;
-    Ok(status)
+    ExitCode::from(status)
+}
+
+// What the arguments ask for; those that are no text are not known.
+fn request(rt: &HostRuntime) -> Request {
+    let Ok(words) = env::args(rt) else {
+        return Request::Usage;
+    };
+    match words.skip(1).collect::<Vec<String>>(rt.alloc()) {
+        Ok(words) => asked(&words),
+        Err(_) => Request::Usage,
+    }
+}
+
+fn status_of(rt: &HostRuntime, ended: Result<Replied, StreamFault>) -> u8 {
+    match ended {
+        Ok(Replied::Plan(_)) => 0,
+        Ok(Replied::Refusal(_)) => 1,
+        Err(fault) => tell(rt, fault),
+    }
+}
+
+fn print(rt: &HostRuntime, text: &[u8]) -> u8 {
+    match write_text(&mut rt.stdout(), text) {
+        Ok(()) => 0,
+        Err(e) => tell(rt, StreamFault::Output(e)),
+    }
+}
+
+// A fault of the streams goes to standard error, and is lost where that fails too.
+fn tell(rt: &HostRuntime, fault: StreamFault) -> u8 {
+    let _ = eprintln!(rt; "dayplan: {fault}");
+    3
 }

@@ -1,0 +1,3 @@
+mod Filled
+pub mod Room
+pub mod Told

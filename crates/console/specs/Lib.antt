@@ -1,0 +1,3 @@
+pub mod Arguments
+pub mod Runs
+pub mod Streams
