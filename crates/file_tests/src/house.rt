@@ -47,8 +47,8 @@ pub fn file_of(alloc: Global, numbers: &[u16]) -> Result<Vec<u8>, AllocError> {
     Ok(file)
 }
 
-// The longest file, of 256 lots with different first days and 32 rules that these days keep: the last over all lots, the
-// others over eight each.
+// The longest file, of 256 lots with different first days and 32 rules that these days keep: the last over all lots,
+// the others over eight each.
 pub fn longest(alloc: Global) -> Result<Vec<u8>, AllocError> {
     let mut numbers = Vec::new(alloc);
     for lot in 0..256 {

@@ -97,7 +97,7 @@ fn rules_are_numbered_from_0(rt: HostRuntime) -> Result<(), Fail> {
     let mut book = Book::empty(0);
     let mut slip = start(&WordStore::new(&mut words), &mut book)?;
     let first = add(&mut slip, &mut book, 0, 2, 1, 1);
-    // a floor of 0, and a ceiling that the one lot never reaches
+    // the widest count window, over one lot
     let second = add(&mut slip, &mut book, 2, 1, 0, 256);
     let rules = slip.rules();
     slip.put_away();
