@@ -1,4 +1,4 @@
-// What a field engineer tries in a house before it may use the planner, one step after the other, in plain words.
+// Stores and counts tried by hand, step by step: what to run in a new house first. Each step prints a sentence.
 #![tactic(auto)]
 
 mod counts;
@@ -11,7 +11,7 @@ fn main(rt: HostRuntime) -> io::Result<()> {
     let Ok(week) = PeriodLength::new(7) else {
         return println!(rt; "No such period");
     };
-    // low and high of five lots in turn
+    // two words a lot: its first day, then its last
     let mut words = [3, 5, 4, 8, 6, 9, 1, 2, 9, 12];
     windows::season(&rt, &mut words)?;
     windows::before_dispatch(&rt, &mut words)?;

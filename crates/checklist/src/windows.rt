@@ -87,8 +87,8 @@ pub fn masked(rt: &HostRuntime, masks: &mut [u64]) -> io::Result<()> {
     Ok(())
 }
 
-// By the lots' numbers, as a store answers. The other checklist has the same lines: two programs share no library for so few.
-// It goes through a store, and no store has a text of its own.
+// Lot by lot, as a store answers: no store has a text of its own. The other checklist has the same lines, since two
+// programs share no library for so few.
 fn show<S: WindowStore>(rt: &HostRuntime, house: &S) -> io::Result<()> {
     for lot in 0..house.lots() {
         if let Some(window) = read_window(house, lot) {

@@ -1,4 +1,4 @@
-// What a field engineer tries on whole sheets before a house may use the planner, one step after the other, in plain words.
+// Whole sheets tried by hand, step by step: what to run in a new house next. Each step prints a sentence.
 #![tactic(auto)]
 
 mod groups;

@@ -1,8 +1,8 @@
 // A house's sheet: rules, asks, settle and plan, and what a refusal leaves.
 use crate::told::{show_rules, show_windows};
 use base_stores::words::WordStore;
-use guard::guard::WORDS;
 use nvalue::stretch::Stretch;
+use plan::WORDS;
 use plan::planning::plan;
 use sheet::asks::{at_most, not_before};
 use sheet::book::Book;

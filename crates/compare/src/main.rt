@@ -1,5 +1,5 @@
-// A second solver beside the planner: worked examples, examples known from the literature and generated sheets are answered by both, and the answers are compared. It ends with status 1 if any
-// two of them differ.
+// A second solver beside the planner: worked examples, examples known from the literature and generated sheets are
+// answered by both, and the answers are compared. It ends with status 1 if any two of them differ.
 #![tactic(auto)]
 
 mod asked;

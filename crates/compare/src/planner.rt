@@ -4,7 +4,7 @@ use answers::small::Small;
 use base_stores::words::WordStore;
 use count::fewest::fewest;
 use count::most::most;
-use guard::guard::WORDS;
+use plan::WORDS;
 use plan::planning::plan;
 use plan::settle::settle;
 use rules::row::Row;

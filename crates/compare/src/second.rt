@@ -1,4 +1,5 @@
-// The second solver: it tries every choice of days, and calls nothing of the planner. The types of a window and of a rule are all that it shares.
+// The second solver: it tries every choice of days, and calls nothing of the planner. The types of a window and of a
+// rule are all that it shares.
 pub mod calendars;
 pub mod choices;
 pub mod counts;

@@ -17,7 +17,7 @@ use store::store::{WindowStore, read_window};
 const LOTS: usize = 5;
 
 fn main(rt: HostRuntime) -> io::Result<()> {
-    // two words for a lot: the first and the last day on which it may be extracted
+    // two words a lot: its first day, then its last
     let mut words = [3, 5, 4, 8, 6, 9, 1, 2, 9, 12];
     let mut house = WordStore::new(&mut words);
     let mut days = [0; LOTS];
@@ -33,8 +33,8 @@ fn main(rt: HostRuntime) -> io::Result<()> {
     println!(rt; "different days in all: {count}")
 }
 
-// Starts a sheet over the house, adds its rules and closes it; then asks, settles and plans. A slip is put away on every
-// way out, so no `?` stands where one is held: what may be refused is called with the slip borrowed.
+// Starts a sheet over the house, adds its rules and closes it; then asks, settles and plans. A slip is put away on
+// every way out, so no `?` stands where one is held: what may be refused is called with the slip borrowed.
 fn plan_season<S: WindowStore>(house: &mut S, days: &mut [u32]) -> Result<usize, SheetFault> {
     let mut book = Book::empty(0);
     let mut draft = start(house, &mut book)?;

@@ -17,7 +17,8 @@ pub fn show(rt: &HostRuntime, score: &mut Score) -> io::Result<()> {
     count(rt, score, &[6, 3, 0, 2, 9])
 }
 
-// Do days have just this count? So says the count itself; and a sheet that fixes each lot to its day has a plan then, and only then.
+// Do days have just this count? So says the count itself; and a sheet that fixes each lot to its day has a plan then,
+// and only then.
 fn holds(rt: &HostRuntime, score: &mut Score, days: &[u32], number: u32) -> io::Result<()> {
     let listed = Listed { days };
     println!(rt; "count {number} of {listed}")?;

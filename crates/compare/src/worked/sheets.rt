@@ -5,7 +5,8 @@ use answers::small::{Small, rule};
 use rules::row::Row;
 use std::io;
 
-// The windows [1,2], [3,5] and [6,9] share no day, so five such lots need three days at least; the other two can join them.
+// The windows [1,2], [3,5] and [6,9] share no day, so the five lots need three days at least; the other two can join
+// these.
 const SPREAD: [(u32, u32); 5] = [(3, 5), (4, 8), (6, 9), (1, 2), (9, 12)];
 
 // Three lots have two days between them, so the five take four days at most.
