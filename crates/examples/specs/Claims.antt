@@ -40,7 +40,7 @@ pub data Claim : Type 0 where
   -- a mask reads as a window; not before a day, it is another mask
   mask : ℕ → Window → (day : ℕ) → ℕ → Claim
 
--- what a call on a sheet is lent: enough working words, a slip and a book that agree, and in the book the sheet's rules
+-- what a call on a sheet is lent: enough working words, a slip and a book that agree, in the book the sheet's rules
 pub record Lent (work lots rules : ℕ) (book : Book) (s : Sheet) : Type 0 where
   pub enough : 4096 ≤ work
   pub agree : AllAgree lots rules book s.windows

@@ -1,5 +1,5 @@
-// Which days a limit takes from each lot. A window has no gaps, so it cannot show a lost day between two used ones; the
-// second solver finds these too.
+// Which days a limit takes from each lot. A window has no gaps, so it cannot show a lost day between two used ones;
+// the second solver finds these too.
 use crate::second::choices::Days;
 use crate::second::lost::{lost_at_ends, lost_inside};
 use crate::second::plans::all_plans;

@@ -1,5 +1,5 @@
-// Three lots on at most two days: ten choices are plans. Each choice is planned as the only one, and the planner accepts
-// just those ten.
+// Three lots on at most two days: ten choices are plans. Each choice is planned as the only one, and the planner
+// accepts just those ten.
 use crate::second::choices::all_choices;
 use crate::second::plans;
 use crate::told::{Score, tell};

@@ -36,8 +36,8 @@ fn greatest_firm(alloc: Global, sheet: &Small) -> Result<Option<Small>, AllocErr
     Ok(None)
 }
 
-// The sheet with each end that no choice uses one further in. Where a rule is kept by no choice, its count window or the
-// windows of its lots become empty.
+// The sheet with each end that no choice uses one further in. Where a rule is kept by no choice, its count window or
+// the windows of its lots become empty.
 fn narrowed(alloc: Global, sheet: &Small, choices: &[Days]) -> Result<Small, AllocError> {
     let windows = sheet.windows.iter().enumerate();
     Ok(Small {
