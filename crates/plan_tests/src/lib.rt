@@ -1,4 +1,5 @@
-// Settle, plan and lists of calls on examples and at their edges. A crate of its own, so that the planner is proved once.
+// Settle, plan and lists of calls on examples and at their edges. A crate of its own, so that the planner is proved
+// once.
 #![tactic(auto)]
 
 #[cfg(test)]
@@ -10,4 +11,8 @@ mod examples;
 #[cfg(test)]
 mod house;
 #[cfg(test)]
+mod layers;
+#[cfg(test)]
 mod refusals;
+#[cfg(test)]
+mod single;
