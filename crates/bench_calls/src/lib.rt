@@ -16,6 +16,7 @@ use count::most::most;
 use nvalue::count_window::CountWindow;
 use nvalue::season::{ROOM, Season};
 use nvalue::stretch::Stretch;
+use propagator::copy::copy;
 use propagator::tighten::tighten;
 use store::window::Window;
 
@@ -72,7 +73,7 @@ pub extern "C" fn bench_tighten(windows: &mut [Window], floor: u32, ceiling: u32
     match Season::new(windows) {
         Ok(season) => match tighten(season, count, &mut room) {
             Some(tight) => {
-                windows.copy_from_slice(tight.season.windows);
+                copy(tight.season.windows, windows);
                 tight.count.ceiling()
             }
             None => 0,

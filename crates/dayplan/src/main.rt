@@ -8,6 +8,7 @@ use console::run::run;
 use console::writing::write_text;
 use reply::reply::Replied;
 use std::env;
+use std::env::{Env, FillError};
 use std::process::ExitCode;
 
 const USAGE: &str = "usage: dayplan < SHEET, or dayplan --help";
@@ -37,8 +38,12 @@ fn main(rt: HostRuntime) -> ExitCode {
     ExitCode::from(status)
 }
 
-// What the arguments ask for; those that are no text are not known.
+// What the arguments ask for; those that are no text are not known. Where there are none, nothing else is read: not the
+// program's own name, which may be no text, and with no memory taken.
 fn request(rt: &HostRuntime) -> Request {
+    if let Err(FillError::NotPresent) = rt.arg(1, &mut []) {
+        return Request::Plan;
+    }
     let Ok(words) = env::args(rt) else {
         return Request::Usage;
     };

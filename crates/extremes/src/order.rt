@@ -5,6 +5,10 @@ ghost use Rattle.extremes.specs.Orders.{slots, ByLastDay};
 use nvalue::season::{ROOM, Season};
 use store::window::Window;
 
+mod any;
+
+pub use any::{order_by_high, slot_at};
+
 // A lot's last day, and its place in the stretch.
 pub type Slot = (u32, u32);
 

@@ -1,6 +1,7 @@
 // The propagator of one rule: the smallest windows that hold every choice whose count it allows.
 #![tactic(auto)]
 
+pub mod copy;
 mod fewest_hull;
 mod mates;
 mod most_hull;

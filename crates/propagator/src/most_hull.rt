@@ -28,8 +28,19 @@ pub fn most_hull(season: Season, days: &[u32], hull: &mut [Window])
     if end_before(season.windows, SHORT) {
         hull_in(season, days, &mut [None; SHORT], hull);
     } else {
-        hull_in(season, days, &mut [None; DAYS], hull);
+        hull_in_long(season, days, hull);
     }
+}
+
+// The same with room for all days. Out of line: it would else stand on the stack of every rule that is made firm, and
+// few need it.
+#[inline(never)]
+fn hull_in_long(season: Season, days: &[u32], hull: &mut [Window])
+    requires each { length hull.old ≡ length season.windows.now }
+    requires best { Best season.windows.now days.now }
+    ensures { Hull season.entry.windows.now (HasMost season.entry.windows.now) hull.new }
+{
+    hull_in(season, days, &mut [None; DAYS], hull);
 }
 
 // The same with room for a mate of each day, and none in it.

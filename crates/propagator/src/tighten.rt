@@ -7,6 +7,7 @@ ghost use Rattle.nvalue.specs.Nvalue.{Counts};
 ghost use Rattle.extremes.specs.Shown.{IsGreatest, IsLeast};
 ghost use Rattle.propagator.specs.Tight.{Hull, Tightens, TightensTo};
 
+use crate::copy::copy;
 use crate::fewest_hull::{fewest_hull, points_of};
 use crate::most_hull::most_hull;
 use extremes::matching::place_lots;
@@ -85,13 +86,13 @@ fn write_hull(
 {
     let least = points.len() as u32;
     if least == most {
-        hull.copy_from_slice(season.windows);
+        copy(season.windows, hull);
     } else if count.ceiling() == least {
         fewest_hull(season, points, hull);
     } else if count.floor() == most {
         most_hull(season, days, hull);
     } else {
-        hull.copy_from_slice(season.windows);
+        copy(season.windows, hull);
     }
 }
 

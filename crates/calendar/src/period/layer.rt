@@ -74,7 +74,12 @@ impl<S: WindowStore> WindowStore for Period<S> {
         shown(self.length, self.below.low(place))
     }
 
-    fn high(&self, place: usize) -> Option<u32> {
+    // A period that is shown has its first day among the words.
+    fn high(&self, place: usize) -> Option<u32>
+        ensures value { result ≡ high_at
+            (map (in_periods self.now.length.days) (S.WindowStore.windows self.now.below)) place }
+        ensures word { IfSome result (λ p. self.now.length.days * p < 2 ^ 32) }
+    {
         shown(self.length, self.below.high(place))
     }
 

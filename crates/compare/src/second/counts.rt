@@ -4,6 +4,7 @@ use answers::answer::Answer;
 use answers::small::Small;
 use rules::row::Row;
 use std::alloc::{AllocError, Global};
+use store::window::Window;
 
 // A day counts where no earlier lot has it.
 pub fn count_days(days: &[u32]) -> usize {
@@ -19,8 +20,19 @@ pub fn days_under<'a>(rule: &Row, days: &'a [u32]) -> &'a [u32] {
     rest.get(..rule.stretch.length).unwrap_or(rest)
 }
 
+// Their windows.
+pub fn windows_under<'a>(rule: &Row, windows: &'a [Window]) -> &'a [Window] {
+    let rest = windows.get(rule.stretch.first..).unwrap_or(&[]);
+    rest.get(..rule.stretch.length).unwrap_or(rest)
+}
+
 pub fn keeps(rule: &Row, days: &[u32]) -> bool {
-    let count = count_days(days_under(rule, days));
+    allows(rule, days_under(rule, days))
+}
+
+// The same of the days of its lots alone.
+pub fn allows(rule: &Row, days: &[u32]) -> bool {
+    let count = count_days(days);
     rule.floor as usize <= count && count <= rule.ceiling as usize
 }
 

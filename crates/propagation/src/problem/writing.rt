@@ -7,6 +7,7 @@ ghost use Rattle.propagation.specs.Problems.{lots_in, sheet_in};
 use super::Problem;
 use nvalue::count_window::CountWindow;
 use nvalue::season::Season;
+use propagator::copy::copy;
 use rules::row::Row;
 use store::window::Window;
 
@@ -28,7 +29,7 @@ impl Problem {
         ensures lots { lots_in self.new ≡ lots_in self.old }
     {
         let end = first + season.windows.len();
-        self.windows[first..end].copy_from_slice(season.windows);
+        copy(season.windows, &mut self.windows[first..end]);
     }
 
     // Gives a rule another count window.

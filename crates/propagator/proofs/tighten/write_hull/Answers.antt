@@ -5,7 +5,7 @@ use Rattle.propagator.proofs.tighten.write_hull.Goals as goal
 
 pub returns-then-least-most : goal.returns-then-least-most
 returns-then-least-most c =
-    subst (Hull _ _) (sym c.copy_from_slice.ensures.after) (stays _ (length c.args.points.now) c.args.most _ _ c.requires.least c.requires.most c.args.count.ordered (inr c.if-least-most.true) c.requires.reached c.requires.within c.args.season.sound)
+    subst (Hull _ _) (sym c.copy.ensures) (stays _ (length c.args.points.now) c.args.most _ _ c.requires.least c.requires.most c.args.count.ordered (inr c.if-least-most.true) c.requires.reached c.requires.within c.args.season.sound)
 
 pub returns-then-ceiling-least : goal.returns-then-ceiling-least
 returns-then-ceiling-least c =
@@ -17,7 +17,7 @@ returns-then-floor-most c =
 
 pub returns-else-floor-most : goal.returns-else-floor-most
 returns-else-floor-most c =
-    subst (Hull _ _) (sym c.copy_from_slice-else-floor-most.ensures.after) (
+    subst (Hull _ _) (sym c.copy-else-floor-most.ensures) (
     stays _ (length c.args.points.now) c.args.most _ _ c.requires.least c.requires.most c.args.count.ordered
     (inl (omega (arith, c.requires.reached, c.if-ceiling-least.false, c.ceiling.ensures), omega (arith, c.requires.within, c.if-floor-most.false, c.floor.ensures)))
     c.requires.reached c.requires.within c.args.season.sound)

@@ -24,10 +24,10 @@ invariant_of-self-clause-sound c =
     let ws = (sheet_in p).windows in
     let us = c.args.season.windows.now in
     let a = c.args.first in
-    subst (AllByRecursion Sound) (sym (in_use p a us _ c.copy_from_slice.ensures.after c.requires))
+    subst (AllByRecursion Sound) (sym (in_use p a us _ c.copy.ensures c.requires))
     (All-append Sound (take a ws ++ us) _ (All-append Sound (take a ws) us (All-take Sound a ws p.sound) c.args.season.sound) (All-drop Sound (a + length us) ws p.sound))
 
 pub returns-clause-sheet : goal.returns-clause-sheet
 returns-clause-sheet c =
     let p = c.args.self.now in
-    ap (λ vs. sheet vs (sheet_in p).rules) (in_use p c.args.first c.args.season.windows.now _ c.copy_from_slice.ensures.after c.requires)
+    ap (λ vs. sheet vs (sheet_in p).rules) (in_use p c.args.first c.args.season.windows.now _ c.copy.ensures c.requires)
